@@ -1,0 +1,5 @@
+pub mod Laws
+pub mod Rows
+pub mod Frames
+pub mod Cells
+pub mod Behind

@@ -1,0 +1,4 @@
+pub mod Machine
+pub mod Calls
+pub mod Laws
+pub mod Of

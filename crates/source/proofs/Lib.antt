@@ -1,0 +1,3 @@
+pub mod Tables
+pub mod Imaged
+pub mod Ramped
