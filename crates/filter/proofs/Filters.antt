@@ -5,7 +5,10 @@ use mathlib.Core.Bool.{Bool, cond, true, false}
 use Prim.Native.Nat.{ℕ, _+_, _*_, _<_, _≤_}
 use native.Mathlib.Omega.{arith}
 use lib.Dec.{leb}
+use lib.IntN.{ℤ}
 use lib.ListN.{length, drop, take, getD, replicate, length-drop, length-append}
+use mir.Syntax.{w32}
+use mir.Val.{SFits}
 use Rattle.std.specs.Options.{mapped}
 use Rattle.std.specs.declared.option.Option.{Option}
 use Rattle.std.specs.declared.option.Option.the-variants.{Some, None}
@@ -18,8 +21,10 @@ use Rattle.std.proofs.shelf.Tests.{cond-true, cond-false, le-leb, lt-leb}
 use Rattle.refusal.specs.declared.Refusal.{Refusal}
 use Rattle.refusal.specs.Numbers.{Fault, fault-at}
 use Rattle.codec.specs.declared.row.Row.{Row}
-use Rattle.codec.specs.Bytes.{Word, word-bytes}
+use Rattle.codec.specs.Bytes.{Word, word-bytes, cell-word}
+use Rattle.codec.specs.Rows.{cell-at}
 use Rattle.codec.specs.Frames.{framed, body, then}
+use Rattle.codec.proofs.Laws.{cell-back}
 use Rattle.codec.proofs.Frames.{body-framed, framed-length, framed-of2, body-length}
 use Rattle.plan.specs.Plans.{tree, none, plan-bytes}
 use Rattle.operator.specs.declared.answer.Answer.the-variants as answer
@@ -27,7 +32,7 @@ use Rattle.operator.specs.Machine.{Machine, Move, Good, row, busy, end}
 use Rattle.operator.specs.Calls.{Moved, Loaded}
 use Rattle.operator.specs.Laws.{Meaning, Same, By-plan, Alike, Meant, Resumed, Read, Laws}
 use Rattle.operator.proofs.Steps.{carried}
-use Rattle.filter.specs.Condition.{known}
+use Rattle.filter.specs.Condition.{holds, known}
 use Rattle.filter.specs.Filtering.{Filtering, filtering, over, passing, passes, head, sifted, either, own-flaw, refetched, filterMachine, filterMeaning}
 
 -- what the code does: a step of the child makes a step of the filter
@@ -60,6 +65,14 @@ loaded s b c′ None (Ok u) h = absurd h
 loaded s b c′ None (Err e) (n, f) = (n, ap (over s) f)
 loaded s b c′ (Some t) (Ok u) f = ap (over s) f
 loaded s b c′ (Some t) (Err e) h = absurd h
+
+-- a row passes as the code tests it, with the constant that the filter was made with
+pub tested : {C : Type 0} (child : C) (cell condition : ℕ) (constant : ℤ) (y : Row) (b : Bool) → SFits w32 constant → holds condition (cell-at y cell) constant ≡ b → passes (filtering child cell condition (cell-word constant)) y ≡ b
+tested child cell condition constant y b f e = ap (holds condition (cell-at y cell)) (cell-back constant f) ∙ e
+
+-- the child has no fault, so the filter's own is the first
+pub own-first : (f : ℕ → Option Fault) (first next : ℕ) (x : Option Fault) → next ≡ first + 1 → None ≡ f next → either (f (first + 1)) x ≡ x
+own-first f first next x e n = ap (λ o. either o x) (ap f (sym e) ∙ sym n)
 
 -- the faults of the filter itself
 pub misfit : (w cell condition k : ℕ) → w ≤ cell → own-flaw w cell condition k ≡ Some (fault-at 1 k)
