@@ -6,8 +6,6 @@ mod filtering;
 #[cfg(test)]
 mod image;
 #[cfg(test)]
-mod layout;
-#[cfg(test)]
 mod plans;
 #[cfg(test)]
 mod ramp;

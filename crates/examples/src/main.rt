@@ -3,6 +3,7 @@ use codec::Row;
 use codec::layouts_read_back;
 use operator::Answer;
 use operator::Operator;
+use refusal::Refusal;
 use scan::Scan;
 use scan::ScanOperator;
 use select::Criterion;
@@ -80,6 +81,14 @@ const LONGER: [u8; 29] = [
     0,
 ];
 
+// A refusal, by its number and word.
+fn print_refusal(rt: &LibcRuntime, refusal: Refusal) -> Result<(), AnyError> {
+    let number = refusal.number();
+    let word = refusal.word();
+    println!(rt, " {number} {word}")?;
+    Ok(())
+}
+
 // The rows of a source, by their first two cells.
 fn print_source<S: Source>(rt: &LibcRuntime, source: &S) -> Result<(), AnyError> {
     let mut row = Row::EMPTY;
@@ -98,12 +107,7 @@ fn print_image(rt: &LibcRuntime, name: &str, bytes: &[u8]) -> Result<(), AnyErro
     print!(rt, "{name}:")?;
     match Image::new(bytes) {
         Ok(image) => print_source(rt, &image),
-        Err(refusal) => {
-            let number = refusal.number();
-            let word = refusal.word();
-            println!(rt, " {number} {word}")?;
-            Ok(())
-        }
+        Err(refusal) => print_refusal(rt, refusal),
     }
 }
 
@@ -111,12 +115,7 @@ fn print_ramp(rt: &LibcRuntime, start: i32, step: i32, count: u16) -> Result<(),
     print!(rt, "ramp {start} step {step} count {count}:")?;
     match Ramp::new(start, step, count) {
         Ok(ramp) => print_source(rt, &ramp),
-        Err(refusal) => {
-            let number = refusal.number();
-            let word = refusal.word();
-            println!(rt, " {number} {word}")?;
-            Ok(())
-        }
+        Err(refusal) => print_refusal(rt, refusal),
     }
 }
 
@@ -168,22 +167,17 @@ fn print_load(rt: &LibcRuntime, position: u8) -> Result<(), AnyError> {
         return Err("refused".into());
     };
     let mut scan = Scan::new(image);
-    match scan.load(&[0, 2, 0, position]) {
-        Ok(()) => {
-            let mut row = Row::EMPTY;
-            let answer = match scan.step(&mut row) {
-                Answer::Row => "row",
-                Answer::Busy => "busy",
-                Answer::End => "end",
-            };
-            println!(rt, "scan of P at position {position}: {answer}")?;
-        }
-        Err(refusal) => {
-            let number = refusal.number();
-            let word = refusal.word();
-            println!(rt, "scan of P at position {position}: {number} {word}")?;
-        }
+    let mut row = Row::EMPTY;
+    print!(rt, "scan of P at position {position}:")?;
+    if let Err(refusal) = scan.load(&[0, 2, 0, position]) {
+        return print_refusal(rt, refusal);
     }
+    let answer = match scan.step(&mut row) {
+        Answer::Row => "row",
+        Answer::Busy => "busy",
+        Answer::End => "end",
+    };
+    println!(rt, " {answer}")?;
     Ok(())
 }
 

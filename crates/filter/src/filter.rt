@@ -3,6 +3,9 @@ ghost use mathlib.Core.Path.{_≡_};
 ghost use Rattle.codec.specs.Bytes.{cell-word};
 ghost use Rattle.operator.specs.Machine.{New};
 ghost use Rattle.operator.specs.Of.{of};
+ghost use Rattle.codec.specs.Rows.{cell-at};
+ghost use Rattle.filter.specs.Condition.{Passes};
+ghost use Rattle.filter.specs.Picks.{Picked};
 ghost use Rattle.filter.specs.Filtering.{Filtering, filtering, filterMachine, filterMeaning};
 use crate::condition::is_condition;
 use crate::condition::passes;
@@ -25,10 +28,12 @@ pub struct Filter<C> {
 }
 
 impl<C: Operator> Filter<C> {
-    // A filter that stands where its child stands: over a new child, at its beginning.
+    // A filter that stands where its child stands: over a new child, at its beginning. Its whole list is the child's rows
+    // that pass, in order.
     pub fn new(child: C, cell: u8, condition: u8, constant: i32) -> Filter<C>
         ensures parts { λ r. ⌜ (r .child ≡ child) × (r .cell ≡ cell) × (r .condition ≡ condition) × (r .constant ≡ constant) ⌝ }
         ensures fresh { λ r. ⌜ (New (C·Operator .machine) (C·Operator .standing) (C·Operator .state child) → New (filterMachine (C·Operator .machine)) (filterMeaning (of C·Operator) .standing) (filtering (C·Operator .state child) cell condition (cell-word constant))) ⌝ }
+        ensures whole { λ r. ⌜ Picked (λ x. Passes condition (cell-at x cell) constant) (C·Operator .whole (C·Operator .state child)) (filterMeaning (of C·Operator) .whole (filtering (C·Operator .state child) cell condition (cell-word constant))) ⌝ }
     {
         Filter {
             child,

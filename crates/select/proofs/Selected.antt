@@ -8,33 +8,19 @@ use lib.IntN.{ℤ}
 use mir.Syntax.{w32}
 use mir.Val.{SFits}
 use lib.ListN.{length, drop, length-drop}
-use Rattle.std.specs.Orderings.{Decides}
 use Rattle.std.specs.declared.option.Option.the-variants.{None}
-use Rattle.std.specs.shelf.Lists.{kept-by}
-use Rattle.std.proofs.shelf.Ways.{not-from-decides}
 use Rattle.codec.specs.declared.row.Row.{Row}
-use Rattle.codec.specs.Bytes.{cell-word, word-cell}
+use Rattle.codec.specs.Bytes.{cell-word}
 use Rattle.codec.specs.Rows.{cell-at}
-use Rattle.codec.proofs.Laws.{cell-back}
 use Rattle.source.specs.Table.{Content, Table}
 use Rattle.source.proofs.Tables.{keeps}
 use Rattle.operator.specs.Machine.{Machine, Move, row, busy, end}
 use Rattle.scan.specs.Scanning.{Scanning, at, taken, scanMachine, scanMeaning}
-use Rattle.filter.specs.Condition.{Passes, holds}
-use Rattle.filter.proofs.Conditions.{decides-holds}
+use Rattle.filter.specs.Condition.{Passes}
+use Rattle.filter.specs.Picks.{Picked}
+use Rattle.filter.proofs.Picks.{picks}
 use Rattle.filter.specs.Filtering.{Filtering, filtering, over, passes, sifted, own-flaw, filterMachine, filterMeaning}
 use Rattle.run.specs.Runs.{Took, no-step, row-step, busy-step, held, Ran}
-use Rattle.select.specs.Selecting.{Picked, none, left}
-use Rattle.select.specs.Selecting as selecting
-
--- what a test that decides a property keeps is what has it
-pub picked : (P : Row → Type 0) (p : Row → Bool) → ((x : Row) → Decides (p x) (P x)) → (xs : List Row) → Picked P xs (kept-by p xs)
-picked P p d [] = none
-picked P p d (x ∷ xs) = by (p x) refl (picked P p d xs)
-  where
-    by : (b : Bool) → p x ≡ b → Picked P xs (kept-by p xs) → Picked P (x ∷ xs) (cond b (x ∷ kept-by p xs) (kept-by p xs))
-    by true e h = selecting.taken (d x .0 e) h
-    by false e h = left (not-from-decides (p x) (d x) e) h
 
 abbrev machine : Machine (Filtering Scanning)
 machine = filterMachine scanMachine
@@ -82,12 +68,7 @@ module _ (t : Table) (p cell condition : ℕ) (constant : ℤ) (u : Filtering Sc
       omega (arith, ap length same, length-drop (u .child .position) (u .child .table .content), ran .within, ran .steps-is)
 
   pub wanted : SFits w32 constant → Picked (λ x. Passes condition (cell-at x cell) constant) (t .content) rows
-  wanted fit =
-      let q : word-cell (cell-word constant) ≡ constant = cell-back constant fit in
-      let D : (x : Row) → Decides (holds condition (cell-at x cell) (word-cell (cell-word constant))) (Passes condition (cell-at x cell) constant) =
-      λ x. (let P : ℤ → Type 0 = λ k. Decides (holds condition (cell-at x cell) (word-cell (cell-word constant))) (Passes condition (cell-at x cell) k) in
-      subst P q (decides-holds condition (cell-at x cell) (word-cell (cell-word constant)))) in
-      rw (ran .all) (picked (λ x. Passes condition (cell-at x cell) constant) (passes (filtering (at t p) cell condition (cell-word constant))) D (t .content))
+  wanted fit = rw (ran .all) (picks (at t p) cell condition constant (t .content) fit)
 
 -- and the same of the parts that the filter was made of
 abbrev pub Facts : Table → ℕ → ℕ → ℤ → ℕ → ℕ → List Row → Type 0

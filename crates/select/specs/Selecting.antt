@@ -1,6 +1,6 @@
 -- The rows of a source that pass a condition. Assumes nothing.
 use mathlib.Core.Path.{_≡_}
-use mathlib.Core.List.{List, [], _∷_}
+use mathlib.Core.List.{List}
 use Prim.Native.Nat.{ℕ, _≤_}
 use lib.IntN.{ℤ}
 use lib.ListN.{length}
@@ -15,17 +15,12 @@ use Rattle.source.specs.Table.{Table}
 use Rattle.source.specs.Images.{Table-image, image-table}
 use Rattle.source.specs.Ramps.{Ramp-fits, ramp-table}
 use Rattle.filter.specs.Condition.{Passes}
+use Rattle.filter.specs.Picks.{Picked}
 use Rattle.filter.specs.Filtering.{own-flaw}
 use Rattle.run.specs.declared.Failure.{Failure}
 use Rattle.run.specs.declared.Failure.the-variants.{Refused, NoMemory}
 use Rattle.select.specs.declared.Criterion.{Criterion}
 use Rattle.select.specs.declared.Selection.{Selection}
-
--- the second list has the rows of the first that have the property, each as often and in the same order, and no others
-pub data Picked (P : Row → Type 0) : List Row → List Row → Type 0 where
-  none : Picked P [] []
-  taken : {x : Row} {xs ys : List Row} → P x → Picked P xs ys → Picked P (x ∷ xs) (x ∷ ys)
-  left : {x : Row} {xs ys : List Row} → (P x → ⊥) → Picked P xs ys → Picked P (x ∷ xs) ys
 
 -- a row is wanted if its cell passes
 abbrev pub Wanted : Criterion → Row → Type 0

@@ -21,7 +21,7 @@ returns-then-passes g c = λ h.
     let q : holds (f .condition) (cell-at y (f .cell)) (f .constant) ≡ true = grind (arith, toZ-ofZ) in
     let s = filtering (g .C·Operator .state (f .child)) (f .cell) (f .condition) (cell-word (f .constant)) in
     passed s (s .child) (g .C·Operator .state (c .step .last .self)) (g .C·Operator .machine .next (s .child)) _ y (c .args .row .now)
-      (tested (s .child) (f .cell) (f .condition) (f .constant) y true k q) (c .in-Row .ensures tt (good (g .C·Operator .machine) (of (g .C·Operator)) _ h))
+    (tested (s .child) (f .cell) (f .condition) (f .constant) y true k q) (c .in-Row .ensures tt (good (g .C·Operator .machine) (of (g .C·Operator)) _ h))
 
 pub returns-else-passes : need.returns-else-passes
 returns-else-passes g c = λ h.
@@ -31,4 +31,4 @@ returns-else-passes g c = λ h.
     let q : holds (f .condition) (cell-at y (f .cell)) (f .constant) ≡ false = grind (arith, toZ-ofZ) in
     let s = filtering (g .C·Operator .state (f .child)) (f .cell) (f .condition) (cell-word (f .constant)) in
     failed s (s .child) (g .C·Operator .state (c .step .last .self)) (g .C·Operator .machine .next (s .child)) _ y (c .args .row .now)
-      (tested (s .child) (f .cell) (f .condition) (f .constant) y false k q) (c .in-Row .ensures tt (good (g .C·Operator .machine) (of (g .C·Operator)) _ h))
+    (tested (s .child) (f .cell) (f .condition) (f .constant) y false k q) (c .in-Row .ensures tt (good (g .C·Operator .machine) (of (g .C·Operator)) _ h))
