@@ -9,7 +9,7 @@ use lib.IntN.{ℤ}
 use lib.ListN.{length, getD}
 use Rattle.std.specs.declared.option.Option.{Option}
 use Rattle.std.specs.declared.option.Option.the-variants.{Some, None}
-use Rattle.select.specs.declared.Criterion.{Criterion}
+use Rattle.filter.specs.declared.condition.Criterion.{Criterion}
 use Rattle.command.specs.declared.command.Command.{Command}
 use Rattle.command.specs.declared.command.Command.the-variants.{Filter, Ramp}
 use Rattle.command.specs.Words.{Reads, Spells, Spells-signed, Spells-criterion}

@@ -6,7 +6,7 @@ use denote.Ref.{RefT, now}
 use lib.Chars.{codes}
 use lib.IntN.{ℤ}
 use Rattle.std.specs.declared.option.Option.{Option}
-use Rattle.select.specs.declared.Criterion.{Criterion}
+use Rattle.filter.specs.declared.condition.Criterion.{Criterion}
 use Rattle.command.specs.declared.command.Command.{Command}
 use Rattle.command.specs.declared.command.Command.the-variants.{Filter, Ramp}
 use Rattle.command.specs.Words.{Reads, Spells, Spells-signed, Spells-criterion}

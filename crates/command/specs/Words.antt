@@ -8,7 +8,7 @@ use mir.Val.{SFits}
 use Rattle.std.specs.Reads.{Numeral, value, afterPlus, afterSign, signedValue}
 use Rattle.std.specs.declared.option.Option.{Option}
 use Rattle.std.specs.declared.option.Option.the-variants.{Some, None}
-use Rattle.select.specs.declared.Criterion.{Criterion}
+use Rattle.filter.specs.declared.condition.Criterion.{Criterion}
 
 -- there is an answer exactly where the words spell one
 abbrev pub Reads : {A : Type 0} → (A → Type 0) → Option A → Type 0

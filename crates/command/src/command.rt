@@ -4,7 +4,7 @@ ghost use Rattle.command.specs.Commands.{Asks-filter, Asks-ramp, Reads-command
 use crate::number::byte_of;
 use crate::number::cell_of;
 use crate::number::count_of;
-use select::Criterion;
+use filter::Criterion;
 
 #[derive(Clone, Copy)]
 pub enum Command<'a> {

@@ -1,12 +1,12 @@
 // The worked examples, run by the code and printed beside the theorem that proves them of the definitions.
 use codec::Row;
 use codec::layouts_read_back;
+use filter::Criterion;
 use operator::Answer;
 use operator::Operator;
 use refusal::Refusal;
 use scan::Scan;
 use scan::ScanOperator;
-use select::Criterion;
 use select::select_image;
 use source::Image;
 use source::ImageSource;

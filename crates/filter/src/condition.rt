@@ -3,6 +3,14 @@ ghost use mathlib.Core.Path.{_≡_};
 ghost use Rattle.std.specs.Orderings.{Decides};
 ghost use Rattle.filter.specs.Condition.{holds, Passes, known};
 
+// Which rows are wanted: those whose cell stands in the condition '=', '<' or '>' to the constant.
+#[derive(Clone, Copy)]
+pub struct Criterion {
+    pub cell: u8,
+    pub condition: u8,
+    pub constant: i32,
+}
+
 // The cell against the constant; an unknown condition passes nothing.
 pub fn passes(condition: char, cell: i32, constant: i32) -> bool
     ensures { λ r. ⌜ (r ≡ holds condition cell constant) × Decides r (Passes condition cell constant) ⌝ }

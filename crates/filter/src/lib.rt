@@ -2,6 +2,7 @@
 mod condition;
 mod filter;
 
+pub use condition::Criterion;
 pub use condition::is_condition;
 pub use condition::passes;
 pub use filter::Filter;

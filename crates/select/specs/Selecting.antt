@@ -19,7 +19,7 @@ use Rattle.filter.specs.Picks.{Picked}
 use Rattle.filter.specs.Filtering.{own-flaw}
 use Rattle.run.specs.declared.Failure.{Failure}
 use Rattle.run.specs.declared.Failure.the-variants.{Refused, NoMemory}
-use Rattle.select.specs.declared.Criterion.{Criterion}
+use Rattle.filter.specs.declared.condition.Criterion.{Criterion}
 use Rattle.select.specs.declared.Selection.{Selection}
 
 -- a row is wanted if its cell passes

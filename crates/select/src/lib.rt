@@ -1,6 +1,7 @@
 // The rows of a source that pass a condition, with a scan and a filter run to their end.
 ghost use Rattle.select.specs.Selecting.{Selects, Selects-image, Selects-ramp};
 use codec::Row;
+use filter::Criterion;
 use filter::Filter;
 use filter::FilterOperator;
 use operator::Operator;
@@ -16,14 +17,6 @@ use source::Ramp;
 use source::RampSource;
 use source::Source;
 use std::alloc::Global;
-
-// Which rows are wanted: those whose cell stands in the condition '=', '<' or '>' to the constant.
-#[derive(Clone, Copy)]
-pub struct Criterion {
-    pub cell: u8,
-    pub condition: u8,
-    pub constant: i32,
-}
 
 // The rows that pass, the width of each, and in how many steps they came.
 #[derive(Drop)]

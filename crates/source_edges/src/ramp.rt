@@ -1,11 +1,9 @@
 // Ramps: width 2, row i is (i, start + i × step).
-use crate::common::MAX;
-use crate::common::MIN;
-use crate::common::Seen;
-use crate::common::SeenDebug;
-use crate::common::SeenPartialEq;
-use crate::common::pair;
-use crate::common::rows_at;
+use crate::found::MAX;
+use crate::found::MIN;
+use crate::found::NONE;
+use crate::found::pair;
+use crate::found::rows_at;
 use refusal::RefusalDebug;
 use source::Ramp;
 use source::RampSource;
@@ -25,10 +23,7 @@ fn rows_of_a_ramp() -> Result<(), Fail> {
     let ramp = Ramp::new(-200, 175, 3)?;
     let rows = [pair(0, -200), pair(1, -25), pair(2, 150)];
     let none = rows_at(&ramp, [3, 4, 65535]);
-    check_eq(
-        (rows_at(&ramp, [0, 1, 2]), none),
-        (rows, [Seen::Nothing; 3]),
-    )?;
+    check_eq((rows_at(&ramp, [0, 1, 2]), none), (rows, [NONE; 3]))?;
     check_eq((ramp.width(), ramp.count()), (2, 3))
 }
 
@@ -74,6 +69,6 @@ fn ramps_of_at_most_4096_rows() -> Result<(), Fail> {
     check_eq([most, over], [[0, 0], [12, 12]])?;
     // 4095 × 524416 = 2147483520
     let ramp = Ramp::new(0, 524416, 4096)?;
-    let rows = [pair(0, 0), pair(4095, 2147483520), Seen::Nothing];
+    let rows = [pair(0, 0), pair(4095, 2147483520), NONE];
     check_eq(rows_at(&ramp, [0, 4095, 4096]), rows)
 }

@@ -3,7 +3,6 @@ use codec::Row;
 use operator::Answer;
 use operator::Operator;
 use refusal::Refusal;
-use source::Source;
 
 pub const MIN: i32 = -2147483648;
 
@@ -33,21 +32,6 @@ fn kept(row: &Row, answer: Seen) -> Seen {
     } else {
         Seen::Spoilt
     }
-}
-
-// Row i of a source.
-pub fn row_at<S: Source>(source: &S, i: u16) -> Seen {
-    let mut row = Row { cells: PATTERN };
-    if source.row(i, &mut row) {
-        Seen::Cells(row.cells)
-    } else {
-        kept(&row, Seen::Nothing)
-    }
-}
-
-// Three rows of a source.
-pub fn rows_at<S: Source>(source: &S, [i, j, k]: [u16; 3]) -> [Seen; 3] {
-    [row_at(source, i), row_at(source, j), row_at(source, k)]
 }
 
 // One step.

@@ -1,6 +1,6 @@
 // Selections from images and ramps.
+use filter::Criterion;
 use run::Failure;
-use select::Criterion;
 use select::Selection;
 use select::select_image;
 use select::select_ramp;

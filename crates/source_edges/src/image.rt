@@ -1,10 +1,8 @@
 // Table images: which bytes are one, and which rows they hold.
-use crate::common::MAX;
-use crate::common::MIN;
-use crate::common::Seen;
-use crate::common::SeenDebug;
-use crate::common::SeenPartialEq;
-use crate::common::rows_at;
+use crate::found::MAX;
+use crate::found::MIN;
+use crate::found::NONE;
+use crate::found::rows_at;
 use refusal::Refusal;
 use refusal::RefusalDebug;
 use source::Image;
@@ -23,8 +21,8 @@ fn verdict(bytes: &[u8]) -> u8 {
 }
 
 // A row of one cell.
-fn single(cell: i32) -> Seen {
-    Seen::Cells([cell, 0, 0, 0, 0, 0, 0, 0])
+fn single(cell: i32) -> (bool, [i32; 8]) {
+    (true, [cell, 0, 0, 0, 0, 0, 0, 0])
 }
 
 // An image of width 1 whose row i holds i.
@@ -69,10 +67,7 @@ fn other_bytes_are_refused() -> Result<(), Fail> {
 fn images_of_no_rows() -> Result<(), Fail> {
     let image = Image::new(&[1, 0, 0, 2])?;
     let rows = rows_at(&image, [0, 1, 65535]);
-    check_eq(
-        (image.width(), image.count(), rows),
-        (2, 0, [Seen::Nothing; 3]),
-    )
+    check_eq((image.width(), image.count(), rows), (2, 0, [NONE; 3]))
 }
 
 #[test]
@@ -102,7 +97,7 @@ fn cells_of_both_signs() -> Result<(), Fail> {
     let image = Image::new(&bytes)?;
     let first = [single(MIN), single(MAX), single(-1)];
     check_eq(rows_at(&image, [0, 1, 2]), first)?;
-    let last = [single(-200), Seen::Nothing, Seen::Nothing];
+    let last = [single(-200), NONE, NONE];
     check_eq(rows_at(&image, [3, 4, 65535]), last)
 }
 
@@ -147,8 +142,8 @@ fn eight_cells_at_most() -> Result<(), Fail> {
         248,
     ];
     let image = Image::new(&bytes)?;
-    let cells = Seen::Cells([1, 256, 65536, 16777216, 5, 6, 7, -8]);
-    check_eq(rows_at(&image, [0, 0, 1]), [cells, cells, Seen::Nothing])?;
+    let cells = (true, [1, 256, 65536, 16777216, 5, 6, 7, -8]);
+    check_eq(rows_at(&image, [0, 0, 1]), [cells, cells, NONE])?;
     let mut long = [0; 40];
     long[0] = 1;
     long[2] = 1;
@@ -162,7 +157,7 @@ fn eight_cells_at_most() -> Result<(), Fail> {
 fn images_of_at_most_4096_rows(rt: LibcRuntime) -> Result<(), Fail> {
     let most = numbered(rt.alloc(), 4096)?;
     let image = Image::new(most.as_slice())?;
-    let rows = [single(0), single(4095), Seen::Nothing];
+    let rows = [single(0), single(4095), NONE];
     check_eq(rows_at(&image, [0, 4095, 4096]), rows)?;
     let over = numbered(rt.alloc(), 4097)?;
     check_eq(verdict(over.as_slice()), 12)
