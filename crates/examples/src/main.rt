@@ -1,9 +1,13 @@
 // The worked examples, run by the code and printed beside the theorem that proves them of the definitions.
 use codec::Row;
 use codec::layouts_read_back;
+use codec::write_row;
 use filter::Criterion;
+use filter::Filter;
+use filter::FilterOperator;
 use operator::Answer;
 use operator::Operator;
+use plan::is_one_tree;
 use refusal::Refusal;
 use scan::Scan;
 use scan::ScanOperator;
@@ -143,6 +147,38 @@ fn print_filter(rt: &LibcRuntime) -> Result<(), AnyError> {
     }
 }
 
+fn print_bytes(rt: &LibcRuntime, bytes: &[u8]) -> Result<(), AnyError> {
+    for byte in bytes.iter() {
+        print!(rt, " {byte:02x}")?;
+    }
+    println!(rt, "")?;
+    Ok(())
+}
+
+// The last row of P as bytes.
+fn print_row(rt: &LibcRuntime) -> Result<(), AnyError> {
+    let row = Row {
+        cells: [5, 150, 0, 0, 0, 0, 0, 0],
+    };
+    let mut bytes = [0u8; 8];
+    let _size = write_row(&mut bytes, 2, &row);
+    print!(rt, "row (5,150):")?;
+    print_bytes(rt, &bytes)
+}
+
+// The plan of the filter "cell 1 above 0" over a scan of P.
+fn print_plan(rt: &LibcRuntime) -> Result<(), AnyError> {
+    let Ok(image) = Image::new(&P) else {
+        return Err("refused".into());
+    };
+    let tree = Filter::new(Scan::new(image), 1, b'>', 0);
+    let mut plan = [0u8; 11];
+    let _size = tree.write_plan(&mut plan);
+    let one = is_one_tree(&plan);
+    print!(rt, "plan of that filter, one tree {one}:")?;
+    print_bytes(rt, &plan)
+}
+
 // The record of a scan of P after one row.
 fn print_record(rt: &LibcRuntime) -> Result<(), AnyError> {
     let Ok(image) = Image::new(&P) else {
@@ -154,11 +190,7 @@ fn print_record(rt: &LibcRuntime) -> Result<(), AnyError> {
     let mut record = [0u8; 4];
     let _size = scan.save(&[], &mut record);
     print!(rt, "record of a scan of P after one row:")?;
-    for byte in record.iter() {
-        print!(rt, " {byte:02x}")?;
-    }
-    println!(rt, "")?;
-    Ok(())
+    print_bytes(rt, &record)
 }
 
 // What a scan of P does that takes up at a position.
@@ -188,7 +220,9 @@ fn run_all(rt: &LibcRuntime) -> Result<(), AnyError> {
     print_ramp(rt, -200, 175, 3)?;
     print_ramp(rt, 2147483647, 1, 1)?;
     print_ramp(rt, 2147483647, 1, 2)?;
+    print_row(rt)?;
     print_filter(rt)?;
+    print_plan(rt)?;
     print_record(rt)?;
     print_load(rt, 2)?;
     print_load(rt, 3)?;
