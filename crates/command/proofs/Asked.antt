@@ -23,20 +23,20 @@ one-byte (b ∷ (c ∷ bs)) e = absurd (omega arith)
 
 pub no-filter : (path cell condition constant : List ℕ) → ((c : Criterion) → Spells-criterion cell condition constant c → ⊥) → (x : Command) → Asks-filter path cell condition constant x → ⊥
 no-filter path cell condition constant h (Filter p c) (e, s) = h c s
-no-filter path cell condition constant h (Ramp a b n c) s = s
+no-filter path cell condition constant h (Ramp l c) s = s
 
 module _ (start step count : List ℕ) (wanted : Criterion) where
   pub no-start : ((z : ℤ) → Spells-signed start z → ⊥) → (x : Command) → Asks-ramp start step count wanted x → ⊥
   no-start h (Filter p c) s = s
-  no-start h (Ramp a b n c) (s, t, u, e) = h a s
+  no-start h (Ramp l c) (s, t, u, e) = h (l .start) s
 
   pub no-step : ((z : ℤ) → Spells-signed step z → ⊥) → (x : Command) → Asks-ramp start step count wanted x → ⊥
   no-step h (Filter p c) s = s
-  no-step h (Ramp a b n c) (s, t, u, e) = h b t
+  no-step h (Ramp l c) (s, t, u, e) = h (l .step) t
 
   pub no-count : ((n : ℕ) → Spells 16 count n → ⊥) → (x : Command) → Asks-ramp start step count wanted x → ⊥
   no-count h (Filter p c) s = s
-  no-count h (Ramp a b n c) (s, t, u, e) = h n u
+  no-count h (Ramp l c) (s, t, u, e) = h (l .count) u
 
 -- words spell one criterion at most
 made : (a a′ b b′ : ℕ) (k k′ : ℤ) → a ≡ a′ → b ≡ b′ → k ≡ k′ → _≡_ {A = Criterion} (record { cell = a; condition = b; constant = k }) (record { cell = a′; condition = b′; constant = k′ })

@@ -14,12 +14,12 @@ use Rattle.command.specs.Words.{Reads, Spells, Spells-signed, Spells-criterion
 -- a filter: a path and a criterion
 abbrev pub Asks-filter : (path cell condition constant : List ℕ) → Command → Type 0
 Asks-filter path cell condition constant (Filter p c) = (now p ≡ path) × Spells-criterion cell condition constant c
-Asks-filter path cell condition constant (Ramp a b n c) = ⊥
+Asks-filter path cell condition constant (Ramp l c) = ⊥
 
 -- a ramp: start, step and count, and a criterion
 abbrev pub Asks-ramp : (start step count : List ℕ) → Criterion → Command → Type 0
 Asks-ramp start step count wanted (Filter p c) = ⊥
-Asks-ramp start step count wanted (Ramp a b n c) = Spells-signed start a × Spells-signed step b × Spells 16 count n × (c ≡ wanted)
+Asks-ramp start step count wanted (Ramp l c) = Spells-signed start (l .start) × Spells-signed step (l .step) × Spells 16 count (l .count) × (c ≡ wanted)
 
 -- five words for a filter, seven for a ramp
 pub record Filter-words (name path cell condition constant : RefT (List ℕ)) (c : Command) : Type 0 where

@@ -5,21 +5,14 @@ use crate::number::byte_of;
 use crate::number::cell_of;
 use crate::number::count_of;
 use filter::Criterion;
+use source::Slope;
 
 #[derive(Clone, Copy)]
 pub enum Command<'a> {
     // the passing rows of the table image in a file
-    Filter {
-        path: &'a str,
-        wanted: Criterion,
-    },
+    Filter { path: &'a str, wanted: Criterion },
     // the passing rows of a ramp
-    Ramp {
-        start: i32,
-        step: i32,
-        count: u16,
-        wanted: Criterion,
-    },
+    Ramp { slope: Slope, wanted: Criterion },
 }
 
 // A criterion from three words: a cell's number, one character, a constant.
@@ -64,9 +57,7 @@ fn ramp_of<'a>(start: &str, step: &str, count: &str, wanted: Criterion) -> Optio
         return None;
     };
     Some(Command::Ramp {
-        start,
-        step,
-        count,
+        slope: Slope { start, step, count },
         wanted,
     })
 }

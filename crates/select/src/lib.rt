@@ -15,6 +15,7 @@ use source::Image;
 use source::ImageSource;
 use source::Ramp;
 use source::RampSource;
+use source::Slope;
 use source::Source;
 use std::alloc::Global;
 
@@ -59,16 +60,10 @@ pub fn select_image(heap: Global, bytes: &[u8], wanted: Criterion) -> Result<Sel
 }
 
 // The passing rows of a ramp; one with a cell out of range is a bad source.
-pub fn select_ramp(
-    heap: Global,
-    start: i32,
-    step: i32,
-    count: u16,
-    wanted: Criterion,
-) -> Result<Selection, Failure>
-    ensures { λ r. ⌜ Selects-ramp start step count wanted r ⌝ }
+pub fn select_ramp(heap: Global, slope: Slope, wanted: Criterion) -> Result<Selection, Failure>
+    ensures { λ r. ⌜ Selects-ramp (slope .start) (slope .step) (slope .count) wanted r ⌝ }
 {
-    match Ramp::new(start, step, count) {
+    match Ramp::new(slope.start, slope.step, slope.count) {
         Ok(ramp) => select_rows(heap, ramp, wanted),
         Err(refusal) => Err(Failure::Refused(refusal)),
     }

@@ -7,4 +7,5 @@ pub use image::Image;
 pub use image::ImageSource;
 pub use ramp::Ramp;
 pub use ramp::RampSource;
+pub use ramp::Slope;
 pub use source::Source;

@@ -25,6 +25,14 @@ fn fits(start: i32, step: i32, count: u16) -> bool
     last >= i32::MIN as i64 && last <= i32::MAX as i64
 }
 
+// The three numbers of a ramp.
+#[derive(Clone, Copy)]
+pub struct Slope {
+    pub start: i32,
+    pub step: i32,
+    pub count: u16,
+}
+
 // A table that needs no bytes.
 #[derive(Clone, Copy)]
 pub struct Ramp {

@@ -4,6 +4,7 @@ use run::Failure;
 use select::Selection;
 use select::select_image;
 use select::select_ramp;
+use source::Slope;
 use std::test::*;
 
 // The number of the refusal, or 0 for a selection.
@@ -13,6 +14,10 @@ fn verdict(result: Result<Selection, Failure>) -> u8 {
         Err(Failure::Refused(refusal)) => refusal.number(),
         Err(Failure::NoMemory) => 99,
     }
+}
+
+fn slope(start: i32, step: i32, count: u16) -> Slope {
+    Slope { start, step, count }
 }
 
 fn where_cell(cell: u8, condition: u8, constant: i32) -> Criterion {
@@ -43,7 +48,7 @@ fn selects(
 
 #[test]
 fn selected_rows(rt: LibcRuntime) -> Result<(), Fail> {
-    let ramp = select_ramp(rt.alloc(), -200, 175, 3, where_cell(1, b'>', -200));
+    let ramp = select_ramp(rt.alloc(), slope(-200, 175, 3), where_cell(1, b'>', -200));
     let ramp_rows = [[1, -25, 0, 0, 0, 0, 0, 0], [2, 150, 0, 0, 0, 0, 0, 0]];
     // the rows (-200), (5) and (-200)
     let bytes = [1, 0, 3, 1, 255, 255, 255, 56, 0, 0, 0, 5, 255, 255, 255, 56];
@@ -73,7 +78,7 @@ fn selections_refused(rt: LibcRuntime) -> Result<(), Fail> {
         let wanted = where_cell(cell, condition, 0);
         let image = [version, 0, 1, 2, 0, 0, 0, 0, 0, 0, 0, 0];
         check_eq(
-            verdict(select_ramp(rt.alloc(), 0, 0, count, wanted)),
+            verdict(select_ramp(rt.alloc(), slope(0, 0, count), wanted)),
             number,
         )?;
         check_eq(verdict(select_image(rt.alloc(), &image, wanted)), number)?;

@@ -2,7 +2,7 @@
 use codec::Row;
 use command::Command;
 use command::command_of;
-use refusal::Refusal;
+use command::refusal_text;
 use run::Failure;
 use select::Selection;
 use select::select_image;
@@ -37,21 +37,11 @@ fn print_selection(rt: &LibcRuntime, found: &Selection) -> Result<(), AnyError> 
     Ok(())
 }
 
-// A refusal as it is reported: its number and word, and the operator that it names.
-fn refusal_text(rt: &LibcRuntime, refusal: Refusal) -> Result<String, AnyError> {
-    let number = refusal.number();
-    let word = refusal.word();
-    match refusal.operator() {
-        Some(at) => Ok(format!(rt.alloc(), "refused: {number} {word}, operator {at}")?),
-        None => Ok(format!(rt.alloc(), "refused: {number} {word}")?),
-    }
-}
-
 fn print_result(rt: &LibcRuntime, result: Result<Selection, Failure>) -> Result<(), AnyError> {
     match result {
         Ok(found) => print_selection(rt, &found),
         Err(Failure::Refused(refusal)) => {
-            let text = refusal_text(rt, refusal)?;
+            let text = refusal_text(rt.alloc(), refusal)?;
             println!(rt, "{text}")?;
             Err("nothing was selected".into())
         }
@@ -65,12 +55,9 @@ fn answer(rt: &LibcRuntime, command: Command) -> Result<(), AnyError> {
             let bytes = fs::read(rt, path)?;
             print_result(rt, select_image(rt.alloc(), &bytes, wanted))
         }
-        Command::Ramp {
-            start,
-            step,
-            count,
-            wanted,
-        } => { print_result(rt, select_ramp(rt.alloc(), start, step, count, wanted)) }
+        Command::Ramp { slope, wanted } => {
+            print_result(rt, select_ramp(rt.alloc(), slope, wanted))
+        }
     }
 }
 
