@@ -1,3 +1,4 @@
 pub mod Condition
 pub mod Filtering
 pub mod Picks
+pub mod Filters

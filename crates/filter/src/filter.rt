@@ -2,11 +2,13 @@
 ghost use Rattle.std.specs.Prelude.{◌≡◌};
 ghost use Rattle.codec.specs.Bytes.{cell_word};
 ghost use Rattle.operator.specs.Machine.{New};
+ghost use Rattle.operator.specs.Laws.{meaning};
 ghost use Rattle.operator.specs.Of.{of};
 ghost use Rattle.codec.specs.Rows.{cell_at};
 ghost use Rattle.filter.specs.Condition.{Passes};
 ghost use Rattle.filter.specs.Picks.{Picked};
 ghost use Rattle.filter.specs.Filtering.{Filtering, filtering, filter_machine, filter_meaning};
+ghost use Rattle.filter.specs.Filters;
 
 use crate::condition::{is_condition, passes};
 use codec::{Row, body_of, frame_head, write_front};
@@ -58,6 +60,8 @@ impl<C: Operator> Operator for Filter<C> {
     ghost reading = { (filter_meaning (of C.Operator)).reading };
 
     ghost standing = { (filter_meaning (of C.Operator)).standing };
+
+    ghost laws = { Filters.laws C.Operator.machine (meaning C.Operator.whole C.Operator.rest C.Operator.full C.Operator.togo C.Operator.reading C.Operator.standing) C.Operator.laws };
 
     fn operators(&self) -> usize {
         (self.child.operators() + 1).min(17)

@@ -4,15 +4,15 @@ use Rattle.scan.proofs.position_in.Goals as goal
 
 pub returns-in-len2 : goal.returns-in-len2
 returns-in-len2 c =
-    let xs = c.in-ok-body_of.field-0.now in
-    rw c.in-ok-body_of.ensures (ap Some c.from_be_bytes.ensures ∙ sym (number_yes xs (search rules)))
+    let xs = c.in_ok-body_of.field-0.now in
+    rw c.in_ok-body_of.ensures (ap Some c.from_be_bytes.ensures ∙ sym (number_yes xs (search rules)))
 
-pub returns-in-default : goal.returns-in-default
-returns-in-default c =
-    let xs = c.in-ok-body_of.field-0.now in
-    rw c.in-ok-body_of.ensures (sym (number_no xs (search rules)))
+pub returns-in_default : goal.returns-in_default
+returns-in_default c =
+    let xs = c.in_ok-body_of.field-0.now in
+    rw c.in_ok-body_of.ensures (sym (number_no xs (search rules)))
 
-pub returns-in-default·2 : goal.returns-in-default·2
-returns-in-default·2 c =
-    let xs = c.in-ok-body_of.field-0.now in
-    rw c.in-ok-body_of.ensures (sym (number_no xs (search rules)))
+pub returns-in_default-2 : goal.returns-in_default-2
+returns-in_default-2 c =
+    let xs = c.in_ok-body_of.field-0.now in
+    rw c.in_ok-body_of.ensures (sym (number_no xs (search rules)))

@@ -14,8 +14,8 @@ returns-in-2 c = record {
   enough = c.owed_part.ensures.enough;
 }
 
-pub returns-in-default : goal.returns-in-default
-returns-in-default c = record {
+pub returns-in_default : goal.returns-in_default
+returns-in_default c = record {
   is = at_none c.args.width c.args.form c.args.count c.args.bytes.now (search rules) (search rules);
   enough = tt;
 }

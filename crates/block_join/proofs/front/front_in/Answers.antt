@@ -13,8 +13,8 @@ returns-then-form-ne0 c =
     let l : 2 ≤ length c.args.bytes.now = search rules in
     leads_odd c.args.size (min 8 c.args.width) c.args.bytes.now l c.if-phase-ne0.false c.if-form-ne0.true
 
-pub returns-in-default : goal.returns-in-default
-returns-in-default c =
+pub returns-in_default : goal.returns-in_default
+returns-in_default c =
     let l : length c.args.bytes.now < 2 = search rules in
     leads_short c.args.size (min 8 c.args.width) c.args.bytes.now l
 

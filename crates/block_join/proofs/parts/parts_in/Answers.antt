@@ -7,12 +7,12 @@ use Rattle.block_join.specs.Code.{front_as}
 use Rattle.block_join.proofs.Cuts.{no_body, no_front, no_block, all_parts}
 use Rattle.block_join.proofs.parts.parts_in.Goals as goal
 
-pub returns-in-default : goal.returns-in-default
-returns-in-default c = record { is = no_body c.args.size (min 8 c.args.outer_width) (min 8 c.args.inner_width) c.args.bytes.now c.in-default.ensures; enough = tt }
+pub returns-in_default : goal.returns-in_default
+returns-in_default c = record { is = no_body c.args.size (min 8 c.args.outer_width) (min 8 c.args.inner_width) c.args.bytes.now c.in_default.ensures; enough = tt }
 
-pub returns-in-default-front_in : goal.returns-in-default-front_in
-returns-in-default-front_in c = record {
-  is = no_front c.args.size (min 8 c.args.outer_width) (min 8 c.args.inner_width) c.args.bytes.now c.in-Some.body.now c.in-Some.ensures c.in-default-front_in.ensures;
+pub returns-in_default-front_in : goal.returns-in_default-front_in
+returns-in_default-front_in c = record {
+  is = no_front c.args.size (min 8 c.args.outer_width) (min 8 c.args.inner_width) c.args.bytes.now c.in-Some.body.now c.in-Some.ensures c.in_default-front_in.ensures;
   enough = tt;
 }
 

@@ -3,8 +3,8 @@ use Rattle.std.proofs.lemmas.List.{take_rest, length-drop}
 use Rattle.codec.proofs.Frames.{body_yes, body_no, body_short}
 use Rattle.codec.proofs.frame.body_of.Goals as goal
 
-pub returns-in-default : goal.returns-in-default
-returns-in-default c = body_short c.args.bytes.now (search rules)
+pub returns-in_default : goal.returns-in_default
+returns-in_default c = body_short c.args.bytes.now (search rules)
 
 pub returns-then-from-rest : goal.returns-then-from-rest
 returns-then-from-rest c =

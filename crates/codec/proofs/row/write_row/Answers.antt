@@ -12,7 +12,7 @@ returns-then-buffer-count c =
 pub returns : goal.returns
 returns c =
     let l : length c.args.row.now.cells ≡ 8 = search rules in
-    let n : c.min_count.result ≡ min 8 c.args.width = omega (arith, c.min_count.ensures) in
+    let n : c.min-count.result ≡ min 8 c.args.width = omega (arith, c.min-count.ensures) in
     let k = row_bytes_length (min 8 c.args.width) c.args.row.now l (omega arith) in
     let b = c.args.buffer.now in (
       omega arith,

@@ -3,11 +3,11 @@ use Rattle.std.proofs.lemmas.Int.{to_z-of_z}
 use Rattle.command.proofs.Asked.{one_byte}
 use Rattle.command.proofs.command.criterion_of.Goals as goal
 
-pub returns-in-default : goal.returns-in-default
-returns-in-default c = λ x h. c.in-default.ensures x.cell h.of_cell
+pub returns-in_default : goal.returns-in_default
+returns-in_default c = λ x h. c.in_default.ensures x.cell h.of_cell
 
-pub returns-in-default-cell_of : goal.returns-in-default-cell_of
-returns-in-default-cell_of c = λ x h. c.in-default-cell_of.ensures x.constant h.of_constant
+pub returns-in_default-cell_of : goal.returns-in_default-cell_of
+returns-in_default-cell_of c = λ x h. c.in_default-cell_of.ensures x.constant h.of_constant
 
 pub returns : goal.returns
 returns c =

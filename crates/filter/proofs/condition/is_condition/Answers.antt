@@ -15,6 +15,6 @@ pub returns-in-62 : goal.returns-in-62
 unfolding known
 returns-in-62 c = rw c.in-62.is
 
-pub returns-in-default : goal.returns-in-default
+pub returns-in_default : goal.returns-in_default
 unfolding known
-returns-in-default c = grind (arith, nat_tests)
+returns-in_default c = grind (arith, nat_tests)

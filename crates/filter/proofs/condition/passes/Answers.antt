@@ -15,6 +15,6 @@ returns-in-60 c = also _ _ _ _ (rw (c.in-60.is, to_z-of_z _ _ c.ranges.cell, to_
 pub returns-in-62 : goal.returns-in-62
 returns-in-62 c = also _ _ _ _ (rw (c.in-62.is, to_z-of_z _ _ c.ranges.cell, to_z-of_z _ _ c.ranges.constant) (sym (holds_above c.args.cell c.args.constant)))
 
-pub returns-in-default : goal.returns-in-default
+pub returns-in_default : goal.returns-in_default
 unfolding holds
-returns-in-default c = also _ _ _ _ (grind (arith, nat_tests))
+returns-in_default c = also _ _ _ _ (grind (arith, nat_tests))

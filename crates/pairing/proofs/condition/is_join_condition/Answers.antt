@@ -15,6 +15,6 @@ pub returns-in-126 : goal.returns-in-126
 unfolding known
 returns-in-126 c = rw c.in-126.is
 
-pub returns-in-default : goal.returns-in-default
+pub returns-in_default : goal.returns-in_default
 unfolding known
-returns-in-default c = grind (arith, nat_tests)
+returns-in_default c = grind (arith, nat_tests)

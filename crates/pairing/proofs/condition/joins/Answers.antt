@@ -19,6 +19,6 @@ returns-in-126 c =
     also _ _ _ _ _
     (rw c.in-126.is (c.is_near.ensures ∙ rw (to_z-of_z _ _ c.ranges.band, to_z-of_z _ _ c.ranges.outer, to_z-of_z _ _ c.ranges.inner) (sym (joins_near c.args.band c.args.outer c.args.inner))))
 
-pub returns-in-default : goal.returns-in-default
+pub returns-in_default : goal.returns-in_default
 unfolding joins
-returns-in-default c = also _ _ _ _ _ (grind (arith, nat_tests))
+returns-in_default c = also _ _ _ _ _ (grind (arith, nat_tests))

@@ -7,16 +7,16 @@ use Rattle.source.proofs.ramp.cell.Goals as goal
 widened : (z : ℤ) → SFits w32 z → SFits w64 z
 widened z f = omega (arith, ints, f.sfits)
 
-pub overflow-mul-result : goal.overflow-mul-result
-overflow-mul-result c =
+pub overflow_mul-result : goal.overflow_mul-result
+overflow_mul-result c =
     let f = c.ranges.step in
     let g : SFits w64 c.args.step = widened c.args.step f in
     let i : to_z w64 c.args.i ≡ pos c.args.i = to_z_pos w64 c.args.i (omega arith) in
     simp (to_z-of_z, i) (product_fits c.args.i c.args.step (omega arith) f)
 
-pub overflow-add-result : goal.overflow-add-result
+pub overflow_add-result : goal.overflow_add-result
 unfolding ramp_cell
-overflow-add-result c =
+overflow_add-result c =
     let f = c.ranges.step in
     let g : SFits w64 c.args.step = widened c.args.step f in
     let h = c.ranges.start in

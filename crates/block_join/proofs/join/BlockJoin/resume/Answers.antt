@@ -10,8 +10,8 @@ use Rattle.block_join.proofs.Fronts.{proper}
 use Rattle.block_join.proofs.Cuts.{begin_both}
 use Rattle.block_join.proofs.join.BlockJoin.resume.Goals as goal
 
-pub returns-in-err-load : goal.returns-in-err-load
-returns-in-err-load g c =
+pub returns-in_err-load : goal.returns-in_err-load
+returns-in_err-load g c =
     let o = g.O.Operator in
     let i = g.I.Operator in
     let s = joining o i c.args.self.now in
@@ -20,12 +20,12 @@ returns-in-err-load g c =
     let lo = g.met.O.Operator.laws in
     let li = g.met.I.Operator.laws in
     let a = apart join_kind join_sense proper o.machine (of o) lo i.machine (of i) li (next o.machine i.machine) s bs c.block_size-size.result c.width.result c.width-2.result (stage_of q.phase) q.stored q.tail.now c.block_size-size.ensures c.width.ensures c.width-2.ensures c.in-Some.ensures.is c.in-Some.ensures.enough in
-    let p = err_from_is_err_and c.from-residual.result c.from-residual.ensures.1 in
+    let p = err_from_is_err_and c.from_residual.result c.from_residual.ensures.1 in
     record {
       restored = λ few.
-          let w = no_block join_kind join_sense proper o.machine (of o) lo i.machine (of i) li (next o.machine i.machine) s bs _ (taken_of o c.load.new.self) _ c.in-err-load.field-0.0 a.is (c.in-err-load.ensures.restored (omega arith) a.loadable) in
+          let w = no_block join_kind join_sense proper o.machine (of o) lo i.machine (of i) li (next o.machine i.machine) s bs _ (taken_of o c.load.new.self) _ c.in_err-load.field-0.0 a.is (c.in_err-load.ensures.restored (omega arith) a.loadable) in
           rw (p.1, p.2) w;
-      begins = λ few. begin_both s.terms _ _ _ _ (c.in-err-load.ensures.begins (omega arith)) refl;
+      begins = λ few. begin_both s.terms _ _ _ _ (c.in_err-load.ensures.begins (omega arith)) refl;
     }
 
 pub returns : goal.returns
@@ -39,6 +39,6 @@ returns g c =
     let li = g.met.I.Operator.laws in
     let a = apart join_kind join_sense proper o.machine (of o) lo i.machine (of i) li (next o.machine i.machine) s bs c.block_size-size.result c.width.result c.width-2.result (stage_of q.phase) q.stored q.tail.now c.block_size-size.ensures c.width.ensures c.width-2.ensures c.in-Some.ensures.is c.in-Some.ensures.enough in
     record {
-      restored = λ few. both join_kind join_sense proper o.machine (of o) lo i.machine (of i) li (next o.machine i.machine) s bs _ (taken_of o c.load.new.self) _ a.is (c.in-ok-load.ensures.restored (omega arith) a.loadable) _ c.load_or_rewind.result c.within_scan.result c.within_scan.ensures (c.load_or_rewind.ensures.loaded (omega arith));
-      begins = λ few. begin_both s.terms _ _ _ _ (c.in-ok-load.ensures.begins (omega arith)) (c.load_or_rewind.ensures.begins (omega arith));
+      restored = λ few. both join_kind join_sense proper o.machine (of o) lo i.machine (of i) li (next o.machine i.machine) s bs _ (taken_of o c.load.new.self) _ a.is (c.in_ok-load.ensures.restored (omega arith) a.loadable) _ c.load_or_rewind.result c.within_scan.result c.within_scan.ensures (c.load_or_rewind.ensures.loaded (omega arith));
+      begins = λ few. begin_both s.terms _ _ _ _ (c.in_ok-load.ensures.begins (omega arith)) (c.load_or_rewind.ensures.begins (omega arith));
     }

@@ -13,8 +13,8 @@ use Rattle.block_join.proofs.Fronts.{proper}
 use Rattle.block_join.proofs.Laws.{laws}
 use Rattle.block_join.proofs.join.BlockJoinOperator.size.Goals as goal
 
-pub overflow-add-front : goal.overflow-add-front
-overflow-add-front g c = record { fits = omega (arith, c.front_size-front.ensures 0 0, proper.short (min 8 c.width.result) 0 0 (stage_of c.args.self.now.phase) (omega arith)) }
+pub overflow_add-front : goal.overflow_add-front
+overflow_add-front g c = record { fits = omega (arith, c.front_size-front.ensures 0 0, proper.short (min 8 c.width.result) 0 0 (stage_of c.args.self.now.phase) (omega arith)) }
 
 pub returns : goal.returns
 returns g c = λ good.

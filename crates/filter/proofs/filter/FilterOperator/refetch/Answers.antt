@@ -2,7 +2,7 @@ use Rattle.std.proofs.Common.{sym, ap, ◌∙◌, arith}
 use Rattle.operator.specs.Of.{of}
 use Rattle.codec.proofs.Frames.{body_framed}
 use Rattle.filter.specs.Filtering.{refetched}
-use Rattle.filter.proofs.Filters.{good}
+use Rattle.filter.specs.Filters.{good}
 use Rattle.filter.proofs.filter.FilterOperator.refetch.Goals as goal
 
 pub returns : goal.returns

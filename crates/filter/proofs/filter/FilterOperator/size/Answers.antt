@@ -1,7 +1,7 @@
 use Rattle.std.proofs.Common.{arith}
 use Rattle.operator.specs.Of.{of}
 use Rattle.codec.proofs.Frames.{framed_length}
-use Rattle.filter.proofs.Filters.{good}
+use Rattle.filter.specs.Filters.{good}
 use Rattle.filter.proofs.filter.FilterOperator.size.Goals as goal
 
 pub returns : goal.returns

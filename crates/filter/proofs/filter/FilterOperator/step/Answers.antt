@@ -5,7 +5,7 @@ use Rattle.codec.specs.Rows.{cell_at}
 use Rattle.operator.specs.Of.{of}
 use Rattle.filter.specs.Condition.{holds}
 use Rattle.filter.specs.Filtering.{filtering}
-use Rattle.filter.proofs.Filters.{good, tested, passed, failed}
+use Rattle.filter.specs.Filters.{good, tested, passed, failed}
 use Rattle.filter.proofs.filter.FilterOperator.step.Goals as goal
 
 pub returns-then-passes : goal.returns-then-passes

@@ -2,8 +2,8 @@ use Rattle.std.proofs.Common.{sym, ◌∙◌, arith}
 use Rattle.source.proofs.Imaged.{count_good, count_bad}
 use Rattle.source.proofs.image.ImageSource.count.Goals as goal
 
-pub overflow-cast-result : goal.overflow-cast-result
-overflow-cast-result c =
+pub overflow_cast-result : goal.overflow_cast-result
+overflow_cast-result c =
     let e = c.in-Some.ensures in
     omega (arith, e.0.few, e.1)
 

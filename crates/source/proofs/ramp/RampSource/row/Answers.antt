@@ -22,12 +22,12 @@ returns-then-i-self c =
     ] in
     record { found = sym (le-ltb c.args.i (length rows) n); row = sym (get_or_past rows c.args.i c.args.row.now n) }
 
-pub overflow-cast-row-2 : goal.overflow-cast-row-2
-overflow-cast-row-2 c =
+pub overflow_cast-row-2 : goal.overflow_cast-row-2
+overflow_cast-row-2 c =
     let r = c.args.self.now in
     let f : SFits w32 r.start = search rules in
     let g : SFits w32 r.step = search rules in
-    let h : SFits w64 c.cell.result = record { sfits = c.cell.type-inv } in
+    let h : SFits w64 c.cell.result = record { sfits = c.cell.type_inv } in
     let t : RampFits r.start r.step r.count = (plain c.fits.result r.start r.step r.count f g c.fits.ensures).0 c.if-not-fits.false in
     let v : c.cell.result ≡ ramp_cell r.start r.step c.args.i = simp to_z-of_z at c.cell.ensures in
     rw (to_z-of_z w64 c.cell.result h, v) (t.inside c.args.i c.if-i-self.false)
@@ -38,7 +38,7 @@ returns c =
     let r = c.args.self.now in
     let f : SFits w32 r.start = search rules in
     let g : SFits w32 r.step = search rules in
-    let h : SFits w64 c.cell.result = record { sfits = c.cell.type-inv } in
+    let h : SFits w64 c.cell.result = record { sfits = c.cell.type_inv } in
     let t : RampFits r.start r.step r.count = (plain c.fits.result r.start r.step r.count f g c.fits.ensures).0 c.if-not-fits.false in
     let v : c.cell.result ≡ ramp_cell r.start r.step c.args.i = simp to_z-of_z at c.cell.ensures in
     let k : SFits w32 (ramp_cell r.start r.step c.args.i) = t.inside c.args.i c.if-i-self.false in
