@@ -30,7 +30,7 @@ steps-smaller g c =
     let m = g.O.Operator.machine in
     let st = g.O.Operator.state in
     let u = st c.rewind.new.self in
-    elim c.match_step.branch [
+    elim c.match-step.branch [
       | in-Row+in-Ok w ↦ (takes m (of g.O.Operator) g.met.O.Operator.laws u (st c.steps.tree) (st c.step.new.self) (vec_items c.steps.rows) c.steps.row c.step.new.row c.steps.steps (held (c.steps.steps + 1)) c.steps.invariant (w.in-Row.ensures c.steps.invariant.good) refl).1
       | in-Busy w ↦ (waits m (of g.O.Operator) g.met.O.Operator.laws u (st c.steps.tree) (st c.step.new.self) (vec_items c.steps.rows) c.steps.row c.step.new.row c.steps.steps (held (c.steps.steps + 1)) c.steps.invariant (w.in-Busy.ensures c.steps.invariant.good) refl).1
     ]
@@ -42,11 +42,11 @@ steps-preserved g c =
     let u = st c.rewind.new.self in
     let n : c.saturating_add-steps.result ≡ held (c.steps.steps + 1) = c.saturating_add-steps.ensures in
     let P : List Row → Type 0 = λ rows. Going m (of g.O.Operator) u (st c.step.new.self) rows c.saturating_add-steps.result in
-    elim c.match_step.branch [
+    elim c.match-step.branch [
       | in-Row+in-Ok w ↦
-          let e : vec_items c.match_step.rows ≡ vec_items c.steps.rows ++ (c.step.new.row ∷ []) = ap vec_items w.rows-is ∙ w.in-Ok.ensures.items in
+          let e : vec_items c.match-step.rows ≡ vec_items c.steps.rows ++ (c.step.new.row ∷ []) = ap vec_items w.rows-is ∙ w.in-Ok.ensures.items in
           subst P (sym e) (takes m (of g.O.Operator) g.met.O.Operator.laws u (st c.steps.tree) (st c.step.new.self) (vec_items c.steps.rows) c.steps.row c.step.new.row c.steps.steps c.saturating_add-steps.result c.steps.invariant (w.in-Row.ensures c.steps.invariant.good) n).0
       | in-Busy w ↦
-          let e : vec_items c.match_step.rows ≡ vec_items c.steps.rows = ap vec_items w.rows-is in
+          let e : vec_items c.match-step.rows ≡ vec_items c.steps.rows = ap vec_items w.rows-is in
           subst P (sym e) (waits m (of g.O.Operator) g.met.O.Operator.laws u (st c.steps.tree) (st c.step.new.self) (vec_items c.steps.rows) c.steps.row c.step.new.row c.steps.steps c.saturating_add-steps.result c.steps.invariant (w.in-Busy.ensures c.steps.invariant.good) n).0
     ]

@@ -15,10 +15,10 @@ returns g c =
     let ran = c.in_ok-rows.ensures in
     let t : table tree.child.source ≡ table c.args.source = let e = parts.0 in let f = c.new.ensures.0 in cc in
     facts_of (table c.args.source) (table tree.child.source) w.cell tree.cell w.condition tree.condition w.constant tree.constant
-    c.width_width.result c.in_ok-rows.field-0.steps (vec_items c.in_ok-rows.field-0.rows)
+    c.width-width.result c.in_ok-rows.field-0.steps (vec_items c.in_ok-rows.field-0.rows)
     t parts.1 parts.2 (parts.3 ∙ to_z-of_z w32 w.constant fit) (
       sym (c.in_default.ensures (omega arith)),
-      c.width_width.ensures,
+      c.width-width.ensures,
       one_each (table tree.child.source) tree.child.position tree.cell tree.condition tree.constant _ _ _ ran,
       wanted (table tree.child.source) tree.child.position tree.cell tree.condition tree.constant _ _ _ ran fit',
     )
