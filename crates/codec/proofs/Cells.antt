@@ -1,5 +1,5 @@
 -- Cells compared, as code compares them and as numbers. Assumes nothing.
-use Rattle.std.proofs.Common.{◌≡◌, ℕ, Bool, true, false, T, eqb, ℤ, pos, negsuc, ◌<ℤ◌, Decides, sym, refl, ap, arith, w32, SFits, of_z}
+use Rattle.std.proofs.Common.{◌≡◌, ℕ, Bool, true, false, T, eqb, ℤ, pos, negsuc, ◌<ℤ◌, Decides, refl, ap, arith, w32, SFits, of_z}
 use lib.Signed.{lt_z}
 use Rattle.std.proofs.lemmas.Bool.{ne_eqb, eqb-true, eq-eqb}
 use Rattle.std.proofs.lemmas.Bool.Decides.{nat_tests}

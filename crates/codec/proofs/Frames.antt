@@ -1,10 +1,10 @@
 -- Records and their bodies. Assumes nothing.
-use Rattle.std.proofs.Common.{◌≡◌, ℕ, ◌+◌, ◌-◌, ◌*◌, ◌/◌, ◌%◌, ◌<◌, ◌≤◌, Bool, true, false, cond, eqb, List, [], ◌∷◌, ◌++◌, length, get_or, take, drop, Some, None, Option, sym, refl, ap, ◌∙◌, arith, length-append, length-drop, length-take}
+use Rattle.std.proofs.Common.{◌≡◌, ℕ, ◌+◌, ◌-◌, ◌*◌, ◌/◌, ◌%◌, ◌<◌, ◌≤◌, Bool, true, false, cond, eqb, List, [], ◌∷◌, length, get_or, drop, Some, None, sym, refl, ap, ◌∙◌, arith}
 use Rattle.std.proofs.lemmas.Bool.{eqb-true, eq-eqb, ne_eqb, cond-true, cond-false}
 use Rattle.std.specs.List.{AllByRecursion as All}
 use Rattle.codec.specs.Frames.{framed, body, number}
 use Rattle.codec.specs.Layouts.{Byte}
-use Rattle.codec.specs.Bytes.{be2, of2, overwrite}
+use Rattle.codec.specs.Bytes.{be2, of2}
 
 -- the body of a body behind its length
 pub body_framed : (xs : List ℕ) → length xs < 65536 → body (framed xs) ≡ Some xs

@@ -1,9 +1,9 @@
 -- Numbers, cells and bytes written over others. Assumes nothing.
-use Rattle.std.proofs.Common.{◌≡◌, ℕ, zero, suc, ◌+◌, ◌-◌, ◌*◌, ◌/◌, ◌%◌, ◌^◌, ◌<◌, ◌≤◌, List, [], ◌∷◌, ◌++◌, length, get_or, take, drop, set, replicate, ℤ, pos, sym, refl, ap, ◌∙◌, append_assoc, add-zero, div-add-mod', add-one, arith, length-append, length-drop, length-take, w32, SFits, to_z, of_z, rules}
+use Rattle.std.proofs.Common.{◌≡◌, ℕ, zero, suc, ◌+◌, ◌-◌, ◌*◌, ◌/◌, ◌%◌, ◌^◌, ◌<◌, ◌≤◌, List, [], ◌∷◌, ◌++◌, length, get_or, take, drop, ℤ, pos, sym, refl, ap, ◌∙◌, append_assoc, add-zero, div-add-mod', add-one, arith, length-append, length-drop, length-take, w32, SFits, to_z, of_z, rules}
 use borrow.Rule.Slice.PartMut.{put_mid}
 use native.Mathlib.Nat.{div-div-eq-div-mul}
 use Rattle.std.proofs.lemmas.Int.{to_z-of_z, of_z-to_z, ints}
-use Rattle.std.proofs.lemmas.List.{drop-drop, take-append-drop, take_more, set_at, take_at, drop_at, take-append-le, drop-append-le}
+use Rattle.std.proofs.lemmas.List.{drop-drop, take-append-drop, take_more, take_at, drop_at}
 use Rattle.std.specs.List.{AllByRecursion as All}
 use Rattle.codec.specs.Bytes.{be2, be4, of2, of4, cell_bytes, cell_of, cells_of, cells_bytes, overwrite}
 

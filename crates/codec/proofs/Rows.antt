@@ -1,15 +1,15 @@
 -- Rows of a width, read and written. Assumes nothing.
-use Rattle.std.proofs.Common.{◌≡◌, ℕ, zero, suc, ◌+◌, ◌-◌, ◌*◌, ◌<◌, ◌≤◌, Bool, true, false, ◌&&◌, eqb, ltb, List, [], ◌∷◌, ◌++◌, length, get_or, take, drop, set, replicate, ℤ, pos, negsuc, Decides, sym, refl, ap, ◌∙◌, ⊎_elim, append_assoc, arith, length-append, length-drop, length-take, w32, SFits, to_z}
+use Rattle.std.proofs.Common.{◌≡◌, ℕ, zero, suc, ◌+◌, ◌-◌, ◌*◌, ◌<◌, ◌≤◌, Bool, true, false, ◌&&◌, eqb, ltb, List, [], ◌∷◌, ◌++◌, length, get_or, take, drop, set, replicate, ℤ, pos, negsuc, Decides, sym, refl, ap, ◌∙◌, ⊎_elim, append_assoc, arith, length-append, length-drop, w32, SFits, to_z}
 use lib.ListN.{length-replicate}
 use lib.Signed.{mag}
 use mir.Val.{sel}
 use Rattle.std.specs.List.{AllByRecursion as All}
-use Rattle.std.proofs.ByRecursion.{All-get_or, All-append, All-drop, Decides-by_and}
-use Rattle.std.proofs.lemmas.List.{set_at, take_at, drop_at, take_all, take-append-drop, drop_all, get_or_past, get_or-drop, length-take-le}
+use Rattle.std.proofs.ByRecursion.{All-get_or, All-append, Decides-by_and}
+use Rattle.std.proofs.lemmas.List.{set_at, take_at, drop_at, take-append-drop, get_or_past, get_or-drop, length-take-le}
 use Rattle.std.proofs.lemmas.Bool.{ltb-true, ltb-false, lt-ltb, eqb-true, eq-eqb, cases_lt}
-use Rattle.std.proofs.lemmas.Bool.Decides.{Decides-and, Decides-eqb, Decides-ltb, Decides-like}
+use Rattle.std.proofs.lemmas.Bool.Decides.{Decides-and, Decides-eqb, Decides-like}
 use Rattle.codec.specs.declared.row.Row.{Row}
-use Rattle.codec.specs.Bytes.{of4, cell_of, cell_bytes, cells_of, cells_bytes}
+use Rattle.codec.specs.Bytes.{of4, cell_of, cells_of, cells_bytes}
 use Rattle.codec.specs.Rows.{cell_at, Wide, fits, fit, is_zero, blank, wide, row_bytes, row_of, rows_of}
 use Rattle.codec.specs.Layouts.{Byte}
 use Rattle.codec.proofs.Laws.{cells_of_more, length_cells_of, cells_back, length_cells_bytes, bytes_back}

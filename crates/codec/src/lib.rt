@@ -1,4 +1,6 @@
 // Rows, cells and bytes: what stands in an image, a record or a plan. Numbers are big-endian.
+#![tactic(auto)]
+
 mod frame;
 mod row;
 

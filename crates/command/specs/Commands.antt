@@ -1,5 +1,5 @@
 -- What the words of a command line ask for. Assumes nothing.
-use Rattle.std.specs.Prelude.{◌≡◌, ℕ, List, [], ◌∷◌, ℤ, codes, Option}
+use Rattle.std.specs.Prelude.{◌≡◌, ℕ, List, [], ◌∷◌, codes, Option}
 use Rattle.std.specs.Borrow.{Bor}
 use Rattle.filter.specs.declared.condition.Criterion.{Criterion}
 use Rattle.command.specs.declared.command.Command.{Command}

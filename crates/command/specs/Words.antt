@@ -1,6 +1,6 @@
 -- What words on a command line mean. Assumes nothing.
 use Rattle.std.specs.Prelude.{◌≡◌, ℕ, ◌^◌, ◌<◌, List, [], ◌∷◌, ℤ, Some, None, Option, FitsSigned}
-use Rattle.std.specs.Int.{Width, w32}
+use Rattle.std.specs.Int.{w32}
 use Rattle.std.specs.Str.Parse.{IsNumeral, digits_value, without_leading_plus, without_leading_sign, signed_digits_value}
 use Rattle.filter.specs.declared.condition.Criterion.{Criterion}
 

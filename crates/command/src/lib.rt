@@ -1,4 +1,6 @@
 // The words of a command line.
+#![tactic(auto)]
+
 mod command;
 mod number;
 mod report;

@@ -1,4 +1,6 @@
 // The worked examples, run by the code and printed beside the theorem that proves them of the definitions.
+#![tactic(auto)]
+
 use anyhow::anyhow;
 use codec::{Row, layouts_read_back, write_row};
 use filter::{Criterion, Filter};

@@ -1,10 +1,10 @@
 -- The test of a condition decides it. Assumes nothing.
-use Rattle.std.proofs.Common.{◌≡◌, ℕ, Bool, true, false, ◌&&◌, ◌||◌, eqb, ℤ, Decides, sym, refl, ap, ◌∙◌, arith}
+use Rattle.std.proofs.Common.{◌≡◌, ℕ, Bool, true, false, ◌&&◌, ◌||◌, eqb, ℤ, Decides, refl}
 use lib.Signed.{lt_z}
 use Rattle.std.proofs.lemmas.Bool.Decides.{Decides-and, Decides-or, Decides-eqb, Decides-at}
 use Rattle.codec.specs.Cells.{eq_z}
 use Rattle.codec.proofs.Cells.{decides_eq_z, decides_lt_z}
-use Rattle.filter.specs.Condition.{equals, below, above, Passes, holds, known}
+use Rattle.filter.specs.Condition.{equals, below, above, Passes, holds}
 
 pub decides_holds : (c : ℕ) (x k : ℤ) → Decides (holds c x k) (Passes c x k)
 unfolding holds

@@ -1,5 +1,5 @@
 -- The machine of a filter over its child's, and its meaning: the child's rows that pass, in order. Assumes nothing.
-use Rattle.std.specs.Prelude.{◌≡◌, ℕ, ◌+◌, Bool, cond, List, [], ◌∷◌, ◌++◌, Some, None, filter, Option, nat_le}
+use Rattle.std.specs.Prelude.{ℕ, ◌+◌, Bool, cond, List, [], ◌∷◌, ◌++◌, Some, None, filter, Option, nat_le}
 use Rattle.std.specs.Option.{option_map}
 use Rattle.refusal.specs.Numbers.{Fault, fault_at}
 use Rattle.codec.specs.declared.row.Row.{Row}

@@ -1,7 +1,6 @@
 -- The machine of a filter keeps its meaning if its child's does, and the code keeps to the machine. Assumes nothing.
-use Rattle.std.proofs.Common.{◌≡◌, ℕ, ◌+◌, ◌*◌, ◌<◌, ◌≤◌, Bool, true, false, cond, leb, List, [], ◌∷◌, ◌++◌, length, get_or, take, drop, replicate, ℤ, Some, None, Ok, Err, filter, Option, Result, sym, refl, ap, ◌∙◌, arith, length-append, length-drop, w32, SFits}
+use Rattle.std.proofs.Common.{◌≡◌, ℕ, ◌+◌, ◌*◌, ◌<◌, ◌≤◌, Bool, true, false, cond, leb, List, ◌∷◌, ◌++◌, length, get_or, drop, replicate, ℤ, Some, None, Ok, Err, filter, Option, Result, sym, refl, ap, ◌∙◌, arith, w32, SFits}
 use Rattle.std.specs.Option.{option_map}
-use Rattle.std.specs.List.{AllByRecursion as All}
 use Rattle.std.proofs.ByRecursion.{all_kept_by}
 use Rattle.std.proofs.lemmas.List.{append-nil}
 use Rattle.std.proofs.lemmas.Bool.{cond-true, cond-false, le-leb, lt-leb}
@@ -10,14 +9,14 @@ use Rattle.refusal.specs.Numbers.{Fault, fault_at}
 use Rattle.codec.specs.declared.row.Row.{Row}
 use Rattle.codec.specs.Bytes.{Word, word_bytes, cell_word}
 use Rattle.codec.specs.Rows.{cell_at}
-use Rattle.codec.specs.Frames.{framed, body, then}
+use Rattle.codec.specs.Frames.{body, then}
 use Rattle.codec.proofs.Laws.{cell_back}
 use Rattle.codec.proofs.Frames.{body_framed, framed_length, framed_of2, body_length}
 use Rattle.plan.specs.Plans.{tree, none, plan_bytes}
 use Rattle.operator.specs.declared.answer.Answer.TheVariants as answer
 use Rattle.operator.specs.Machine.{Machine, Move, Good, row, busy, end}
 use Rattle.operator.specs.Calls.{Moved, Loaded}
-use Rattle.operator.specs.Laws.{Meaning, Same, ByPlan, Alike, Meant, Resumed, Read, Laws}
+use Rattle.operator.specs.Laws.{Meaning, Same, ByPlan, Alike, Meant, Read, Laws}
 use Rattle.operator.proofs.Steps.{carried}
 use Rattle.filter.specs.Condition.{holds, known}
 use Rattle.filter.specs.Filtering.{Filtering, filtering, over, passing, passes, head, sifted, either, own_flaw, refetched, filter_machine, filter_meaning}

@@ -1,4 +1,6 @@
 // The rows of a child that pass a condition.
+#![tactic(auto)]
+
 mod condition;
 mod filter;
 

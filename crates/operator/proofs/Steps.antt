@@ -1,9 +1,9 @@
 -- What lawful code does, in words of the meaning. Assumes nothing.
-use Rattle.std.proofs.Common.{◌≡◌, ℕ, ◌<◌, ◌≤◌, List, [], ◌∷◌, sym, refl, ap, ◌∙◌, arith}
+use Rattle.std.proofs.Common.{◌≤◌, refl, ◌∙◌}
 use Rattle.codec.specs.declared.row.Row.{Row}
 use Rattle.operator.specs.declared.answer.Answer.{Answer}
 use Rattle.operator.specs.declared.answer.Answer.TheVariants as answer
-use Rattle.operator.specs.Machine.{Machine, Move, Good, New, row, busy, end}
+use Rattle.operator.specs.Machine.{Machine, Move, Good, row, busy, end}
 use Rattle.operator.specs.Calls.{Moved}
 use Rattle.operator.specs.Laws.{Meaning, Same, Meant, Laws, Told}
 

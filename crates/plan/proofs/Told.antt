@@ -1,10 +1,10 @@
 -- The test of plan bytes told as a function, and what one tree's bytes tell of it. Assumes nothing.
-use Rattle.std.proofs.Common.{◌≡◌, ℕ, zero, suc, ◌+◌, ◌-◌, ◌*◌, ◌<◌, ◌≤◌, Bool, true, false, ◌&&◌, ltb, leb, List, [], ◌∷◌, ◌++◌, length, drop, Decides, sym, refl, ap, ◌∙◌, subst, append_assoc, append-nil, arith, length-append}
+use Rattle.std.proofs.Common.{◌≡◌, ℕ, zero, suc, ◌+◌, ◌-◌, ◌*◌, ◌≤◌, Bool, true, ◌&&◌, ltb, leb, List, [], ◌∷◌, ◌++◌, length, drop, Decides, sym, refl, ap, ◌∙◌, append_assoc, append-nil, arith, length-append}
 use Rattle.std.proofs.lemmas.Bool.Decides.{Decides-like, Decides-at, Decides-and, Decides-eqb, Decides-ltb, same_from_decides}
 use Rattle.std.proofs.lemmas.Bool.{leb-true, le-leb}
 use Rattle.std.proofs.lemmas.List.{drop_at}
 use Rattle.plan.specs.Plans.{kinds, Trees, none, tree, count, Proper, plan_bytes, operators, keepers, kind_parameters, kind_children, kind_keepers, Exactly, Planned, trees_told, one_tree}
-use Rattle.plan.proofs.Steps.{First, first, again, no_bytes, all_read, nothing_left, refused, same}
+use Rattle.plan.proofs.Steps.{first, again, no_bytes, all_read, nothing_left, refused, same}
 
 decides_leb : (x y : ℕ) → Decides (leb x y) (x ≤ y)
 decides_leb x y = (leb-true x y, le-leb x y)

@@ -1,4 +1,6 @@
 // The plan of an operator tree as bytes: each operator's kind and parameters, parent before children.
+#![tactic(auto)]
+
 ghost use Rattle.std.specs.Prelude.{◌≡◌, Decides};
 ghost use Rattle.plan.specs.Plans.{Exactly, one_tree};
 

@@ -1,4 +1,6 @@
 // Why a call turns its caller down.
+#![tactic(auto)]
+
 ghost use Rattle.std.specs.Prelude.{◌≡◌};
 ghost use Rattle.refusal.specs.Numbers.{number, operator, word};
 

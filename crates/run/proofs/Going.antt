@@ -1,5 +1,5 @@
 -- A run on its way: what it has answered, followed by the rest, is the whole. Assumes nothing.
-use Rattle.std.proofs.Common.{◌≡◌, ℕ, ◌+◌, ◌<◌, ◌≤◌, min, List, [], ◌∷◌, ◌++◌, sym, refl, ap, ◌∙◌, append_assoc, append-nil, arith}
+use Rattle.std.proofs.Common.{◌≡◌, ℕ, ◌+◌, ◌<◌, ◌≤◌, List, [], ◌∷◌, ◌++◌, sym, refl, ap, ◌∙◌, append_assoc, append-nil, arith}
 use Rattle.codec.specs.declared.row.Row.{Row}
 use Rattle.operator.specs.declared.answer.Answer.TheVariants as answer
 use Rattle.operator.specs.Machine.{Machine, Move, Good, row, busy, end}

@@ -1,4 +1,6 @@
 // Runs any operator tree from its beginning to its end.
+#![tactic(auto)]
+
 ghost use Rattle.operator.specs.Of.{of};
 ghost use Rattle.run.specs.Runs.{Runs};
 

@@ -1,10 +1,10 @@
 -- The machine of a scan, and its meaning: the rows of its source from its position on. Assumes nothing.
-use Rattle.std.specs.Prelude.{◌≡◌, ℕ, ◌+◌, ◌-◌, ◌≤◌, cond, List, [], ◌∷◌, length, drop, Some, None, Option, nat_le}
+use Rattle.std.specs.Prelude.{ℕ, ◌+◌, ◌-◌, ◌≤◌, cond, List, [], ◌∷◌, length, drop, Some, None, Option, nat_le}
 use Rattle.codec.specs.declared.row.Row.{Row}
 use Rattle.codec.specs.Bytes.{be2}
 use Rattle.codec.specs.Frames.{framed, body, number, then}
 use Rattle.source.specs.Table.{Content, Table}
-use Rattle.operator.specs.Machine.{Machine, Move, row, busy, end}
+use Rattle.operator.specs.Machine.{Machine, Move, row, end}
 use Rattle.operator.specs.Laws.{Meaning}
 
 -- what the source holds, and the position of the next row

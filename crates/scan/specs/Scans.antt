@@ -1,20 +1,19 @@
 -- The machine of a scan keeps its meaning, and the code keeps to the machine. Assumes nothing.
-use Rattle.std.specs.Prelude.{◌≡◌, ℕ, ◌+◌, ◌-◌, ◌*◌, ◌<◌, ◌≤◌, Bool, true, false, cond, List, [], ◌∷◌, length, drop, Some, None, Option, nat_le, slice_index, slice_index_or, refl}
+use Rattle.std.specs.Prelude.{◌≡◌, ℕ, ◌+◌, ◌<◌, ◌≤◌, Bool, true, false, cond, List, [], ◌∷◌, length, drop, Some, None, Option, nat_le, slice_index, slice_index_or, refl}
 use Rattle.std.proofs.Common.{ap, sym, ◌∙◌, arith, length-drop}
 use Rattle.std.proofs.lemmas.List.{drop-drop, drop_more, drop_all, get_or_past}
 use Rattle.std.proofs.ByRecursion.{All-drop}
 use Rattle.std.proofs.lemmas.Bool.{cond-true, le-leb, leb-true}
 use Rattle.codec.specs.declared.row.Row.{Row}
-use Rattle.codec.specs.Bytes.{be2, of2}
-use Rattle.codec.specs.Frames.{framed, body, number, then}
+use Rattle.codec.specs.Bytes.{be2}
+use Rattle.codec.specs.Frames.{body, number, then}
 use Rattle.codec.proofs.Frames.{body_framed, framed_length, framed_of2, number_back}
 use Rattle.plan.specs.Plans.{tree, none}
 use Rattle.source.specs.Table.{Content, Table}
 use Rattle.source.proofs.Tables.{keeps, table_same}
 use Rattle.operator.specs.declared.answer.Answer.TheVariants as answer
-use Rattle.operator.specs.Machine.{Machine, Move, Good, row, busy, end}
 use Rattle.operator.specs.Calls.{Moved}
-use Rattle.operator.specs.Laws.{Same, ByPlan, Alike, Meant, Begun, Resumed, Read, Laws}
+use Rattle.operator.specs.Laws.{Same, ByPlan, Alike, Meant, Read, Laws}
 use Rattle.scan.specs.Scanning.{Scanning, at, taken, placed, rows_from, scan_machine, scan_meaning}
 
 -- what the code does

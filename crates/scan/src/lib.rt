@@ -1,4 +1,6 @@
 // The rows of a source, in order.
+#![tactic(auto)]
+
 ghost use Rattle.std.specs.Prelude.{◌≡◌};
 ghost use Rattle.codec.specs.Frames.{body, number, then};
 ghost use Rattle.operator.specs.Machine.{New};

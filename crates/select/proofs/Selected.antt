@@ -1,17 +1,17 @@
 -- A filter over a scan answers the wanted rows, one source row a step. Assumes nothing.
-use Rattle.std.proofs.Common.{◌≡◌, ℕ, ◌+◌, ◌<◌, ◌≤◌, Bool, true, false, cond, List, [], ◌∷◌, ◌++◌, length, drop, ℤ, None, sym, refl, ap, ◌∙◌, subst, arith, length-drop, w32, SFits}
+use Rattle.std.proofs.Common.{◌≡◌, ℕ, ◌+◌, Bool, true, false, cond, List, [], ◌∷◌, length, drop, ℤ, None, sym, refl, ap, subst, arith, length-drop, w32, SFits}
 use Rattle.codec.specs.declared.row.Row.{Row}
 use Rattle.codec.specs.Bytes.{cell_word}
 use Rattle.codec.specs.Rows.{cell_at}
 use Rattle.source.specs.Table.{Content, Table}
 use Rattle.source.proofs.Tables.{keeps}
-use Rattle.operator.specs.Machine.{Machine, Move, row, busy, end}
+use Rattle.operator.specs.Machine.{Machine, row, busy, end}
 use Rattle.scan.specs.Scanning.{Scanning, at, taken, scan_machine, scan_meaning}
 use Rattle.filter.specs.Condition.{Passes}
 use Rattle.filter.specs.Picks.{Picked}
 use Rattle.filter.proofs.Picks.{picks}
 use Rattle.filter.specs.Filtering.{Filtering, filtering, over, passes, sifted, own_flaw, filter_machine, filter_meaning}
-use Rattle.run.specs.Runs.{Took, no_step, row_step, busy_step, held, Ran}
+use Rattle.run.specs.Runs.{Took, no_step, row_step, busy_step, Ran}
 
 abbrev machine : Machine (Filtering Scanning)
 machine = filter_machine scan_machine

@@ -1,4 +1,6 @@
 // The rows of a source that pass a condition, with a scan and a filter run to their end.
+#![tactic(auto)]
+
 ghost use Rattle.select.specs.Selecting.{Selects, SelectsImage, SelectsRamp};
 
 use codec::Row;

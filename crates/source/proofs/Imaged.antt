@@ -1,13 +1,12 @@
 -- Images mean the rows in their bytes. Assumes nothing.
-use Rattle.std.proofs.Common.{◌≡◌, ℕ, zero, suc, ◌+◌, ◌-◌, ◌*◌, ◌<◌, ◌≤◌, Bool, true, false, cond, ◌&&◌, eqb, leb, List, [], ◌∷◌, length, get_or, drop, Decides, sym, refl, ap, ◌∙◌, ⊎_elim, mul-le-mul_right, suc-mul, zero-mul, arith, length-drop}
-use Rattle.std.proofs.lemmas.Bool.Decides.{Decides-and, Decides-eqb, Decides-like, not_from_Decides}
+use Rattle.std.proofs.Common.{◌≡◌, ℕ, zero, suc, ◌+◌, ◌*◌, ◌<◌, ◌≤◌, eqb, leb, List, length, get_or, drop, Decides, sym, refl, ap, ◌∙◌, ⊎_elim, mul-le-mul_right, suc-mul, zero-mul, arith}
+use Rattle.std.proofs.lemmas.Bool.Decides.{Decides-and, Decides-eqb, Decides-like}
 use Rattle.std.proofs.lemmas.Bool.{cond-true, cond-false, cases_Bool}
 use Rattle.std.proofs.lemmas.List.{drop-drop, get_or-drop}
 use Rattle.codec.specs.declared.row.Row.{Row}
-use Rattle.codec.specs.Bytes.{of2}
 use Rattle.codec.specs.Rows.{row_of, rows_of}
 use Rattle.codec.proofs.Rows.{rows_wide}
-use Rattle.source.specs.Table.{Content, Sound, Table, table_of, no_rows}
+use Rattle.source.specs.Table.{Sound, Table, table_of, no_rows}
 use Rattle.source.specs.Images.{named_count, named_width, named_rows, TableImage, is_image, image_table}
 use Rattle.source.proofs.Tables.{decides_leb, table_width, table_content, no_content, no_width}
 

@@ -1,5 +1,5 @@
 -- Ramps mean their rows. Assumes nothing.
-use Rattle.std.proofs.Common.{◌≡◌, ℕ, zero, suc, ◌+◌, ◌-◌, ◌*◌, ◌^◌, ◌<◌, ◌≤◌, Bool, true, false, ◌&&◌, ltb, List, [], ◌∷◌, map, length, get_or, replicate, ℤ, pos, negsuc, ◌+ℤ◌, ◌*ℤ◌, neg_ℤ, Decides, sym, refl, ap, ◌∙◌, subst, ⊎_elim, mul-le-mul_right, arith, w32, w64, SFits, to_z, of_z}
+use Rattle.std.proofs.Common.{◌≡◌, ℕ, zero, suc, ◌+◌, ◌-◌, ◌*◌, ◌^◌, ◌<◌, ◌≤◌, Bool, true, false, ltb, length, get_or, ℤ, pos, negsuc, ◌*ℤ◌, Decides, sym, refl, ap, ◌∙◌, subst, ⊎_elim, mul-le-mul_right, arith, w32, w64, SFits, to_z, of_z}
 use lib.IntN.{zero-*ℤ}
 use lib.Signed.{mag, le_z}
 use Rattle.std.specs.List.{range_with_len, AllByRecursion as All}
@@ -9,9 +9,8 @@ use Rattle.std.proofs.lemmas.Int.{ints, to_z-of_z}
 use Rattle.std.proofs.lemmas.Bool.Decides.{nat_tests, not_from_Decides, Decides-at, Decides-like, Decides-ltb}
 use Rattle.std.proofs.lemmas.Bool.{cases_Bool}
 use Rattle.codec.specs.declared.row.Row.{Row}
-use Rattle.codec.specs.Rows.{Wide, cell_at}
-use Rattle.codec.proofs.Rows.{cell_fits}
-use Rattle.source.specs.Table.{Content, Sound, sound, Table, table_of}
+use Rattle.codec.specs.Rows.{Wide}
+use Rattle.source.specs.Table.{Sound, sound}
 use Rattle.source.specs.Ramps.{ramp_cell, ramp_row, ramp_rows, RampFits, ramp_table}
 use Rattle.source.proofs.Tables.{decides_sound, table_width, table_content, table_broken}
 

@@ -1,5 +1,5 @@
 -- Ramps: width 2, and row i is (i, start + i × step). Assumes nothing.
-use Rattle.std.specs.Prelude.{◌≡◌, ℕ, ◌<◌, ◌≤◌, List, [], ◌∷◌, map, replicate, ℤ, pos, ◌+ℤ◌, ◌*ℤ◌, Ok, Err, Result, FitsSigned}
+use Rattle.std.specs.Prelude.{◌≡◌, ℕ, ◌<◌, ◌≤◌, ◌∷◌, map, replicate, ℤ, pos, ◌+ℤ◌, ◌*ℤ◌, Ok, Err, Result, FitsSigned}
 use Rattle.std.specs.Int.{w32}
 use Rattle.std.specs.List.{range_with_len}
 use Rattle.refusal.specs.declared.Refusal.{Refusal}

@@ -1,4 +1,6 @@
 // Sources: a width and at most 4,096 rows, both fixed.
+#![tactic(auto)]
+
 mod image;
 mod ramp;
 mod source;

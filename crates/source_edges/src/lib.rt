@@ -1,3 +1,5 @@
+#![tactic(auto)]
+
 // Tests at the edges of the formats: each limit from both sides, with values worked out by hand.
 #[cfg(test)]
 mod found;

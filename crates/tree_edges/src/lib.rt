@@ -1,3 +1,5 @@
+#![tactic(auto)]
+
 // Tests at the edges of the operators' rules: each limit from both sides, with values worked out by hand.
 #[cfg(test)]
 mod common;

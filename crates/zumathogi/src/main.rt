@@ -1,4 +1,6 @@
 // The passing rows of a table image or a ramp, printed.
+#![tactic(auto)]
+
 use anyhow::anyhow;
 use codec::Row;
 use command::{Command, command_of, refusal_text};

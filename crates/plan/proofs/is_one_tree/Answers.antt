@@ -1,8 +1,7 @@
-use Rattle.std.proofs.Common.{◌≡◌, ◌+◌, ◌-◌, ◌<◌, ◌≤◌, length, get_or, drop, sym, refl, ap, ◌∙◌, arith, length-drop}
-use Rattle.std.proofs.lemmas.List.{drop-drop, drop_all}
+use Rattle.std.proofs.Common.{◌≡◌, ◌+◌, ◌-◌, length, get_or, drop, sym, refl, arith, length-drop}
+use Rattle.std.proofs.lemmas.List.{drop_all}
 use Rattle.std.proofs.lemmas.Bool.{eqb-true, eq-eqb}
-use Rattle.plan.specs.Plans.{Exactly, kind_parameters, kind_children, kind_keepers}
-use Rattle.plan.proofs.Steps.{First, no_bytes, all_read, nothing_left, refused, same, head, few_children, turn, unturn}
+use Rattle.plan.proofs.Steps.{no_bytes, all_read, nothing_left, refused, same, head, few_children, turn, unturn}
 use Rattle.plan.proofs.Told.{also}
 use Rattle.plan.proofs.is_one_tree.Goals as goal
 use Rattle.plan.proofs.is_one_tree.Goals.{then-at-bytes-via-then-at-bytes, then-at-bytes-via-else-at-bytes+then-operators-ge-MAX_OPERATORS, then-bytes-at-via-then-bytes-at, then-bytes-at-via-else-bytes-at+then-keepers-kind-gt-MAX_KEEPERS}

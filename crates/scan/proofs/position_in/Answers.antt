@@ -1,4 +1,4 @@
-use Rattle.std.proofs.Common.{◌≡◌, length, Some, None, sym, ap, ◌∙◌, rules}
+use Rattle.std.proofs.Common.{Some, sym, ap, ◌∙◌, rules}
 use Rattle.codec.proofs.Frames.{number_yes, number_no}
 use Rattle.scan.proofs.position_in.Goals as goal
 

@@ -1,6 +1,5 @@
-use Rattle.std.proofs.Common.{◌≡◌, vec_items, sym, refl, ap, ◌∙◌, arith, w32, SFits, rules}
+use Rattle.std.proofs.Common.{◌≡◌, vec_items, sym, ◌∙◌, arith, w32, SFits, rules}
 use Rattle.std.proofs.lemmas.Int.{to_z-of_z}
-use Rattle.source.specs.Table.{Table}
 use Rattle.select.proofs.Selected.{one_each, wanted, facts_of}
 use Rattle.select.proofs.select_rows.Goals as goal
 

@@ -1,8 +1,8 @@
-use Rattle.std.proofs.Common.{◌≡◌, ℕ, zero, suc, ◌<◌, pos, negsuc, refl, arith, w32, SFits}
+use Rattle.std.proofs.Common.{ℕ, zero, suc, ◌<◌, pos, negsuc, refl, arith, w32, SFits}
 use Rattle.codec.specs.Frames.{framed, body, number}
 use Rattle.codec.specs.Rows.{wide}
 use Rattle.source.specs.Table.{sound, no_rows, table_of}
-use Rattle.source.specs.Images.{TableImage, is_image, image_table}
+use Rattle.source.specs.Images.{is_image, image_table}
 use Rattle.source.specs.Ramps.{RampFits, ramp_cell, ramp_row, ramp_rows}
 use Rattle.filter.specs.Condition.{holds, known}
 use Rattle.filter.specs.Filtering.{own_flaw}

@@ -1,4 +1,4 @@
-use Rattle.std.proofs.Common.{◌≡◌, ◌+◌, ◌-◌, ◌*◌, ◌<◌, ◌≤◌, length, get_or, take, drop, Some, None, sym, refl, ap, ◌∙◌, arith, rules}
+use Rattle.std.proofs.Common.{Some, sym, ap, ◌∙◌, rules}
 use Rattle.std.proofs.lemmas.List.{take_rest, length-drop}
 use Rattle.codec.proofs.Frames.{body_yes, body_no, body_short}
 use Rattle.codec.proofs.frame.body_of.Goals as goal

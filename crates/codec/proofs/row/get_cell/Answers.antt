@@ -1,4 +1,4 @@
-use Rattle.std.proofs.Common.{refl, ◌∙◌, add-zero, w32, SFits, rules}
+use Rattle.std.proofs.Common.{◌∙◌, add-zero, w32, SFits, rules}
 use Rattle.std.proofs.lemmas.List.{get_or-drop}
 use Rattle.std.proofs.lemmas.Int.{to_z-of_z}
 use Rattle.codec.proofs.row.get_cell.Goals as goal

@@ -1,4 +1,4 @@
-use Rattle.std.proofs.Common.{◌≡◌, ℕ, List, [], ◌∷◌, length, sym, refl, ap, ◌∙◌, arith}
+use Rattle.std.proofs.Common.{◌≡◌, ℕ, List, [], ◌∷◌, length, arith}
 use Rattle.std.specs.List.{AllByRecursion as All}
 use Rattle.codec.specs.Bytes.{be2, be4, of2, of4, cell_bytes, cell_of}
 use Rattle.codec.specs.Layouts.{Byte}

@@ -1,7 +1,7 @@
-use Rattle.std.proofs.Common.{◌≡◌, ◌+◌, ◌*◌, ◌<◌, ◌≤◌, length, get_or, take, pos, sym, refl, ap, ◌∙◌, arith, w32, SFits, to_z, of_z, rules}
+use Rattle.std.proofs.Common.{◌*◌, get_or, take, pos, ap, ◌∙◌, arith, w32, SFits, rules}
 use Rattle.std.proofs.lemmas.Int.{to_z-of_z}
 use Rattle.codec.specs.Bytes.{overwrite, cell_bytes, cells_bytes}
-use Rattle.codec.proofs.Laws.{overwrite_none, write_more}
+use Rattle.codec.proofs.Laws.{write_more}
 use Rattle.codec.proofs.row.put_cells.Goals as goal
 
 pub loop-i-preserved : goal.loop-i-preserved

@@ -1,5 +1,4 @@
-use Rattle.std.proofs.Common.{◌≡◌, ◌+◌, ◌*◌, ◌≤◌, min, ◌++◌, length, take, drop, sym, refl, ap, ◌∙◌, arith, rules}
-use Rattle.codec.specs.Bytes.{cells_bytes, overwrite}
+use Rattle.std.proofs.Common.{◌≡◌, ◌+◌, min, ◌++◌, length, drop, refl, ap, ◌∙◌, arith, rules}
 use Rattle.codec.specs.Rows.{row_bytes}
 use Rattle.codec.proofs.Rows.{row_bytes_length}
 use Rattle.codec.proofs.row.write_row.Goals as goal

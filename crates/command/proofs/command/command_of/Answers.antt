@@ -1,4 +1,4 @@
-use Rattle.std.proofs.Common.{◌≡◌, length, arith, rules}
+use Rattle.std.proofs.Common.{◌≡◌, length, rules}
 use Rattle.command.proofs.Asked.{five_words, seven_words, seven_none}
 use Rattle.command.proofs.command.command_of.Goals as goal
 
