@@ -1,7 +1,7 @@
 -- Bytes written one behind the other, and rows as bytes. Assumes nothing.
 use Rattle.std.proofs.Common.{◌≡◌, ℕ, zero, suc, ◌+◌, ◌-◌, ◌*◌, ◌^◌, ◌<◌, ◌≤◌, min, List, [], ◌∷◌, ◌++◌, length, get_or, take, drop, Ok, Err, Result, sym, refl, ap, ◌∙◌, append_assoc, append-nil, mul-le-mul_right, suc-mul, mul-le-mul, zero-mul, add-one, arith, length-append, length-drop, length-take}
 use borrow.Rule.Slice.PartMut.{put_mid}
-use Rattle.std.specs.List.{AllByRecursion as All}
+use Rattle.std.specs.List.{AllByRecursion}
 use Rattle.std.proofs.lemmas.List.{drop-drop, drop_at, drop_all, take_rest, take_more, take_all}
 use Rattle.refusal.specs.declared.Refusal.{Refusal}
 use Rattle.codec.specs.declared.row.Row.{Row}
@@ -62,12 +62,12 @@ rows_short w (r ∷ rs) h = simp length-append (omega (arith, rows_short w rs h,
 suc_times : (m n : ℕ) → suc m * n ≡ n + m * n
 suc_times m n = omega (arith, suc-mul m n)
 
-pub length_rows : (w : ℕ) (rs : List Row) → w ≤ 8 → All (Wide w) rs → length (rows_bytes w rs) ≡ length rs * (4 * w)
+pub length_rows : (w : ℕ) (rs : List Row) → w ≤ 8 → AllByRecursion (Wide w) rs → length (rows_bytes w rs) ≡ length rs * (4 * w)
 length_rows w [] h k = sym (zero-mul (4 * w))
 length_rows w (r ∷ rs) h (k, ks) =
     length-append (row_bytes w r) (rows_bytes w rs) ∙ ap (λ n. n + length (rows_bytes w rs)) (row_bytes_length w r k.eight h) ∙ ap (λ n. 4 * w + n) (length_rows w rs h ks) ∙ sym (suc_times (length rs) (4 * w))
 
-pub rows_back : (w : ℕ) (rs : List Row) (behind : List ℕ) → w ≤ 8 → All (Wide w) rs → rows_of w (length rs) (rows_bytes w rs ++ behind) ≡ rs
+pub rows_back : (w : ℕ) (rs : List Row) (behind : List ℕ) → w ≤ 8 → AllByRecursion (Wide w) rs → rows_of w (length rs) (rows_bytes w rs ++ behind) ≡ rs
 rows_back w [] behind h k = refl
 rows_back w (r ∷ rs) behind h (k, ks) =
     let e = append_assoc (row_bytes w r) (rows_bytes w rs) behind in

@@ -1,6 +1,6 @@
 -- The block's part of a record: what is written reads back, and what is read keeps the rules. Assumes nothing.
 use Rattle.std.proofs.Common.{◌≡◌, ℕ, ◌+◌, ◌*◌, ◌<◌, ◌≤◌, Bool, true, false, cond, eqb, leb, List, [], ◌∷◌, ◌++◌, length, take, drop, Some, None, Option, sym, refl, ap, ◌∙◌, append_assoc, append-nil, arith, length-append, length-drop, length-take}
-use Rattle.std.specs.List.{AllByRecursion as All}
+use Rattle.std.specs.List.{AllByRecursion}
 use Rattle.std.proofs.lemmas.List.{take_at, drop_at, get_or-take, get_or_append_left}
 use Rattle.std.proofs.lemmas.Bool.{leb-true, eqb-true, le-leb, eq-eqb}
 use Rattle.codec.specs.declared.row.Row.{Row}
@@ -33,7 +33,7 @@ cut_back p xs h =
 
 -- the rules of a block's part
 abbrev pub Sound : ℕ → Kept → Type 0
-Sound v (dumped rows outer) = All (Wide v) rows × (length outer ≡ 2 + of2 outer)
+Sound v (dumped rows outer) = AllByRecursion (Wide v) rows × (length outer ≡ 2 + of2 outer)
 Sound v (owed count contract) = (length contract ≡ 2 + of2 contract) × (length contract ≤ 512)
 
 pub record OkPart (v b n : ℕ) (p : Parted) : Type 0 where

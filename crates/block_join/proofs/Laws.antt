@@ -1,6 +1,6 @@
 -- The machine of a block join keeps its meaning if its children's do. Assumes nothing.
 use Rattle.std.proofs.Common.{◌≡◌, ℕ, ◌+◌, ◌≤◌, min, List, [], ◌∷◌, ◌++◌, length, drop, sym, refl, ap, ◌∙◌, subst, arith}
-use Rattle.std.specs.List.{AllByRecursion as All}
+use Rattle.std.specs.List.{AllByRecursion}
 use Rattle.std.proofs.ByRecursion.{All-append, All-drop}
 use Rattle.codec.specs.declared.row.Row.{Row}
 use Rattle.codec.specs.Rows.{Wide}
@@ -18,16 +18,16 @@ use Rattle.block_join.proofs.Fronts.{proper}
 use Rattle.block_join.proofs.Moves.{moves}
 
 module _ {S T : Type 0} (o : Machine S) (d : Meaning S) (lo : Laws o d) (i : Machine T) (e : Meaning T) (li : Laws i e) where
-  whole_wide : (y : T) → i.operators y ≤ 16 → All (Wide (i.width y)) (e.whole y)
+  whole_wide : (y : T) → i.operators y ≤ 16 → AllByRecursion (Wide (i.width y)) (e.whole y)
   whole_wide y few =
       let z = li.begins y in
-      subst (All (Wide (i.width y))) z.rest (subst (λ (w : ℕ). All (Wide w) (e.rest (i.begin y))) (li.by_plan y (i.begin y) z.same.plan).width (li.wide (i.begin y) (begun i e li y few)))
+      subst (AllByRecursion (Wide (i.width y))) z.rest (subst (λ (w : ℕ). AllByRecursion (Wide w) (e.rest (i.begin y))) (li.by_plan y (i.begin y) z.same.plan).width (li.wide (i.begin y) (begun i e li y few)))
 
   module _ (r : Terms) (t : Taken S) (y : T) where
     abbrev Rows : List Row → Type 0
-    Rows rows = All (Wide (min 8 (o.width t.child + i.width y))) rows
+    Rows rows = AllByRecursion (Wide (min 8 (o.width t.child + i.width y))) rows
 
-    wide_at : (g : Stage) → Standing join_kind join_sense o d i e (keeping r g t y) → All (Wide (o.width t.child)) (d.rest t.child) → All (Wide (i.width y)) (e.rest y) → All (Wide (i.width y)) (e.whole y) → Rows ((join_meaning o d i e).rest (keeping r g t y))
+    wide_at : (g : Stage) → Standing join_kind join_sense o d i e (keeping r g t y) → AllByRecursion (Wide (o.width t.child)) (d.rest t.child) → AllByRecursion (Wide (i.width y)) (e.rest y) → AllByRecursion (Wide (i.width y)) (e.whole y) → Rows ((join_meaning o d i e).rest (keeping r g t y))
     wide_at empty st a b w = joined_wide (o.width t.child) (i.width y) r (lo.sized t.child).1 (block_size r) (d.rest t.child) (e.whole y) a w
     wide_at filling st a b w = joined_wide (o.width t.child) (i.width y) r (lo.sized t.child).1 (block_size r) (t.rows ++ d.rest t.child) (e.whole y) (All-append (Wide (o.width t.child)) t.rows (d.rest t.child) st.outer.wide a) w
     wide_at scanning st a b w =
@@ -38,7 +38,7 @@ module _ {S T : Type 0} (o : Machine S) (d : Meaning S) (lo : Laws o d) (i : Mac
         (All-append (Wide (min 8 (o.width t.child + i.width y))) _ _ (scanned_wide (o.width t.child) (i.width y) r (lo.sized t.child).1 t.rows (e.rest y) st.outer.wide b)
         (joined_wide (o.width t.child) (i.width y) r (lo.sized t.child).1 (block_size r) (d.rest t.child) (e.whole y) a w))
 
-  wide : (s : Keeping Stage S T) → Good (join_machine o d.togo i) (join_meaning o d i e).standing s → All (Wide ((join_machine o d.togo i).width s)) ((join_meaning o d i e).rest s)
+  wide : (s : Keeping Stage S T) → Good (join_machine o d.togo i) (join_meaning o d i e).standing s → AllByRecursion (Wide ((join_machine o d.togo i).width s)) ((join_meaning o d i e).rest s)
   wide s g =
       let go = keeper-laws.good_outer join_kind join_sense proper o d lo i e li (next o i) s g in
       let gi = keeper-laws.good_inner join_kind join_sense proper o d lo i e li (next o i) s g in

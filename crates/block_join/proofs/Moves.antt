@@ -1,6 +1,6 @@
 -- A step of a block join keeps its meaning. Assumes nothing.
 use Rattle.std.proofs.Common.{◌≡◌, ℕ, ◌+◌, ◌-◌, ◌<◌, ◌≤◌, min, max, Bool, true, false, cond, eqb, ltb, leb, List, [], ◌∷◌, ◌++◌, length, drop, Some, None, Option, sym, refl, ap, ◌∙◌, subst, append_assoc, append-nil, arith}
-use Rattle.std.specs.List.{AllByRecursion as All}
+use Rattle.std.specs.List.{AllByRecursion}
 use Rattle.std.proofs.lemmas.List.{length_push, length-drop, drop-drop, nil_from_length}
 use Rattle.std.proofs.lemmas.Bool.{leb-true, leb-false, eqb-true, eqb-false, lt-ltb, cond-true}
 use Rattle.codec.specs.declared.row.Row.{Row}
@@ -59,7 +59,7 @@ module _ {S T : Type 0} (o : Machine S) (d : Meaning S) (lo : Laws o d) (i : Mac
     )
 
     -- a row joins the block
-    module _ (st : Stand filling) (w : All (Wide (o.width x)) (d.rest x)) (b : Row) (x' : S) (sx : d.standing x') (sa : Same o x x') (took : d.rest x ≡ b ∷ d.rest x') (less : d.togo x' < d.togo x) where
+    module _ (st : Stand filling) (w : AllByRecursion (Wide (o.width x)) (d.rest x)) (b : Row) (x' : S) (sx : d.standing x') (sa : Same o x x') (took : d.rest x ≡ b ∷ d.rest x') (less : d.togo x' < d.togo x) where
       abbrev p' : Pairing
       p' = pairing r (o.width x')
 
@@ -137,7 +137,7 @@ module _ {S T : Type 0} (o : Machine S) (d : Meaning S) (lo : Laws o d) (i : Mac
         )
 
     -- the outer child answered
-    fills : (v : Move S) → Stand filling → All (Wide (o.width x)) (d.rest x) → Meant o d x v → Meant m n (at filling) (filled o i r t y v)
+    fills : (v : Move S) → Stand filling → AllByRecursion (Wide (o.width x)) (d.rest x) → Meant o d x v → Meant m n (at filling) (filled o i r t y v)
     fills (row b x') st w (sx, sa, took, less) = grown st w b x' sx sa took less (leb B (length t.rows + 1)) refl
     fills (busy x') st w (sx, sa, left, less) =
         let q : pairing r (o.width x') ≡ p = ap (pairing r) (lo.by_plan x x' sa.plan).width in
@@ -150,7 +150,7 @@ module _ {S T : Type 0} (o : Machine S) (d : Meaning S) (lo : Laws o d) (i : Mac
     fills end st w (none, over) = stopped st none over (eqb (length t.rows) 0) refl
 
     -- the inner child answered
-    scans : (v : Move T) → Stand scanning → All (Wide (i.width y)) (e.rest y) → Meant i e y v → Meant m n (at scanning) (scanned_on o i r t y v)
+    scans : (v : Move T) → Stand scanning → AllByRecursion (Wide (i.width y)) (e.rest y) → Meant i e y v → Meant m n (at scanning) (scanned_on o i r t y v)
     scans (row b u) st w (sy, sa, took, less) =
         let k = li.alike y u sa in
         let wh = k.whole in
@@ -161,7 +161,7 @@ module _ {S T : Type 0} (o : Machine S) (d : Meaning S) (lo : Laws o d) (i : Mac
         let al : all_steps B p (blocks B (d.rest x)) (e.whole u) (e.full u) ≡ all_steps B p (blocks B (d.rest x)) (e.whole y) (e.full y) = cc in
         let ss : scan_steps p t.rows (e.rest y) ≡ scan_steps p t.rows (b ∷ e.rest u) = cc in
         let ru = st.ruled in (
-          record { outer = st.outer; inner = sy; ruled = (ru.0, ru.1, omega arith, subst (λ (z : ℕ). Wide z b) (sym (li.by_plan y u sa.plan).width) (subst (All (Wide (i.width y))) took w).0); begins = λ h. absurd (let c : ◌≡◌ {A = ℕ} 0 1 = cc in omega arith) },
+          record { outer = st.outer; inner = sy; ruled = (ru.0, ru.1, omega arith, subst (λ (z : ℕ). Wide z b) (sym (li.by_plan y u sa.plan).width) (subst (AllByRecursion (Wide (i.width y))) took w).0); begins = λ h. absurd (let c : ◌≡◌ {A = ℕ} 0 1 = cc in omega arith) },
           same r scanning (matching b 0) t t y u (same_self o x) sa,
           cc,
           omega arith,

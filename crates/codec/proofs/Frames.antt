@@ -1,7 +1,7 @@
 -- Records and their bodies. Assumes nothing.
 use Rattle.std.proofs.Common.{◌≡◌, ℕ, ◌+◌, ◌-◌, ◌*◌, ◌/◌, ◌%◌, ◌<◌, ◌≤◌, Bool, true, false, cond, eqb, List, [], ◌∷◌, length, get_or, drop, Some, None, sym, refl, ap, ◌∙◌, arith}
 use Rattle.std.proofs.lemmas.Bool.{eqb-true, eq-eqb, ne_eqb, cond-true, cond-false}
-use Rattle.std.specs.List.{AllByRecursion as All}
+use Rattle.std.specs.List.{AllByRecursion}
 use Rattle.codec.specs.Frames.{framed, body, number}
 use Rattle.codec.specs.Layouts.{Byte}
 use Rattle.codec.specs.Bytes.{be2, of2}
@@ -77,7 +77,7 @@ framed_at true h l xs ys e p q f =
 framed_at false h l xs ys e p q f = absurd (let z : ◌≡◌ {A = ℕ} 0 1 = cc in omega arith)
 
 -- a record is its body behind its length
-pub framed_body : (bs inside : List ℕ) → All Byte bs → body bs ≡ Some inside → framed inside ≡ bs
+pub framed_body : (bs inside : List ℕ) → AllByRecursion Byte bs → body bs ≡ Some inside → framed inside ≡ bs
 unfolding body
 framed_body [] ys h e = absurd (let z : ◌≡◌ {A = ℕ} 0 1 = cc in omega arith)
 framed_body (a ∷ []) ys h e = absurd (let z : ◌≡◌ {A = ℕ} 0 1 = cc in omega arith)

@@ -4,7 +4,7 @@ use borrow.Rule.Slice.PartMut.{put_mid}
 use native.Mathlib.Nat.{div-div-eq-div-mul}
 use Rattle.std.proofs.lemmas.Int.{to_z-of_z, of_z-to_z, ints}
 use Rattle.std.proofs.lemmas.List.{drop-drop, take-append-drop, take_more, take_at, drop_at}
-use Rattle.std.specs.List.{AllByRecursion as All}
+use Rattle.std.specs.List.{AllByRecursion}
 use Rattle.codec.specs.Bytes.{be2, be4, of2, of4, cell_bytes, cell_of, cells_of, cells_bytes, overwrite}
 
 of_z_lt : (z : ℤ) → SFits w32 z → of_z w32 z < 2 ^ 32
@@ -107,7 +107,7 @@ pub length_cells_bytes : (xs : List ℤ) → length (cells_bytes xs) ≡ 4 * len
 length_cells_bytes [] = refl
 length_cells_bytes (x ∷ xs) = omega (arith, length_cells_bytes xs)
 
-pub cells_back : (zs : List ℤ) (behind : List ℕ) → All (SFits w32) zs → cells_of (length zs) (cells_bytes zs ++ behind) ≡ zs
+pub cells_back : (zs : List ℤ) (behind : List ℕ) → AllByRecursion (SFits w32) zs → cells_of (length zs) (cells_bytes zs ++ behind) ≡ zs
 cells_back [] behind h = refl
 cells_back (z ∷ zs) behind (f, h) =
     let e : cell_of (cell_bytes z ++ (cells_bytes zs ++ behind)) ≡ z = cell_back z f in

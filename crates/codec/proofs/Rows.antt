@@ -3,7 +3,7 @@ use Rattle.std.proofs.Common.{◌≡◌, ℕ, zero, suc, ◌+◌, ◌-◌, ◌*�
 use lib.ListN.{length-replicate}
 use lib.Signed.{mag}
 use mir.Val.{sel}
-use Rattle.std.specs.List.{AllByRecursion as All}
+use Rattle.std.specs.List.{AllByRecursion}
 use Rattle.std.proofs.ByRecursion.{All-get_or, All-append, Decides-by_and}
 use Rattle.std.proofs.lemmas.List.{set_at, take_at, drop_at, take-append-drop, get_or_past, get_or-drop, length-take-le}
 use Rattle.std.proofs.lemmas.Bool.{ltb-true, ltb-false, lt-ltb, eqb-true, eq-eqb, cases_lt}
@@ -58,15 +58,15 @@ picked false n e = record { sfits = omega (arith, ltb-false n 2147483648 e) }
 pub to_z_fits : (n : ℕ) → SFits w32 (to_z w32 n)
 to_z_fits n = picked (ltb n 2147483648) n refl
 
-cells_fit : (n : ℕ) (bs : List ℕ) → All (SFits w32) (cells_of n bs)
+cells_fit : (n : ℕ) (bs : List ℕ) → AllByRecursion (SFits w32) (cells_of n bs)
 cells_fit zero bs = tt
 cells_fit (suc n) bs = (to_z_fits (of4 bs), cells_fit n (drop 4 bs))
 
-zeros_fit : (n : ℕ) → All (SFits w32) (replicate n (pos 0))
+zeros_fit : (n : ℕ) → AllByRecursion (SFits w32) (replicate n (pos 0))
 zeros_fit zero = tt
 zeros_fit (suc n) = (zero_fits, zeros_fit n)
 
-zeros_zero : (n : ℕ) → All (λ z. z ≡ pos 0) (replicate n (pos 0))
+zeros_zero : (n : ℕ) → AllByRecursion (λ z. z ≡ pos 0) (replicate n (pos 0))
 zeros_zero zero = tt
 zeros_zero (suc n) = (refl, zeros_zero n)
 
@@ -78,7 +78,7 @@ row_wide w bs h = record {
   zeros = rw (drop_at (cells_of w bs) (replicate (8 - w) (pos 0)) w (length_cells_of w bs)) (zeros_zero (8 - w));
 }
 
-pub rows_wide : (w n : ℕ) (bs : List ℕ) → w ≤ 8 → All (Wide w) (rows_of w n bs)
+pub rows_wide : (w n : ℕ) (bs : List ℕ) → w ≤ 8 → AllByRecursion (Wide w) (rows_of w n bs)
 rows_wide w zero bs h = tt
 rows_wide w (suc n) bs h = (row_wide w bs h, rows_wide w n (drop (4 * w) bs) h)
 
@@ -91,11 +91,11 @@ row_more n bs h =
     ∙ sym (append_assoc (cells_of n bs) (cell_of (drop (4 * n) bs) ∷ []) (replicate (8 - (n + 1)) (pos 0)))
     ∙ ap (λ l. l ++ replicate (8 - (n + 1)) (pos 0)) (sym (cells_of_more n bs))
 
-all_zero : (zs : List ℤ) → All (λ z. z ≡ pos 0) zs → zs ≡ replicate (length zs) (pos 0)
+all_zero : (zs : List ℤ) → AllByRecursion (λ z. z ≡ pos 0) zs → zs ≡ replicate (length zs) (pos 0)
 all_zero [] h = refl
 all_zero (z ∷ zs) (e, h) = ap (λ x. x ∷ zs) e ∙ ap (λ l. pos 0 ∷ l) (all_zero zs h)
 
-front_fits : (n : ℕ) (zs : List ℤ) → All (SFits w32) zs → All (SFits w32) (take n zs)
+front_fits : (n : ℕ) (zs : List ℤ) → AllByRecursion (SFits w32) zs → AllByRecursion (SFits w32) (take n zs)
 front_fits zero zs h = tt
 front_fits (suc n) [] h = tt
 front_fits (suc n) (z ∷ zs) (f, h) = (f, front_fits n zs h)
@@ -111,7 +111,7 @@ row_back w r behind le h =
     ap (λ zs. record { cells = zs }) (ap (λ l. l ++ replicate (8 - w) (pos 0)) c ∙ ap (λ l. take w r.cells ++ l) (sym z) ∙ take-append-drop w r.cells)
 
 -- bytes that are cells are written back
-pub cells_bytes_back : (n : ℕ) (bs : List ℕ) → All Byte bs → length bs ≡ 4 * n → cells_bytes (cells_of n bs) ≡ bs
+pub cells_bytes_back : (n : ℕ) (bs : List ℕ) → AllByRecursion Byte bs → length bs ≡ 4 * n → cells_bytes (cells_of n bs) ≡ bs
 cells_bytes_back zero [] h e = refl
 cells_bytes_back zero (a ∷ bs) h e = absurd (omega arith)
 cells_bytes_back (suc n) [] h e = absurd (omega arith)
@@ -121,7 +121,7 @@ cells_bytes_back (suc n) (a ∷ b ∷ c ∷ []) h e = absurd (omega arith)
 cells_bytes_back (suc n) (a ∷ b ∷ c ∷ d ∷ bs) (p, (q, (r, (s, h)))) e =
     ap (λ l. l ++ cells_bytes (cells_of n bs)) (bytes_back a b c d p q r s) ∙ ap (λ l. a ∷ b ∷ c ∷ d ∷ l) (cells_bytes_back n bs h (omega arith))
 
-pub row_bytes_back : (w : ℕ) (bs : List ℕ) → All Byte bs → length bs ≡ 4 * w → w ≤ 8 → row_bytes w (row_of w bs) ≡ bs
+pub row_bytes_back : (w : ℕ) (bs : List ℕ) → AllByRecursion Byte bs → length bs ≡ 4 * w → w ≤ 8 → row_bytes w (row_of w bs) ≡ bs
 row_bytes_back w bs h e le =
     ap cells_bytes (take_at (cells_of w bs) (replicate (8 - w) (pos 0)) w (length_cells_of w bs)) ∙ cells_bytes_back w bs h e
 

@@ -2,7 +2,7 @@
 use Rattle.std.specs.Prelude.{◌≡◌, ℕ, zero, suc, ◌-◌, ◌*◌, Bool, true, false, ◌&&◌, List, [], ◌∷◌, ◌++◌, length, take, drop, replicate, ℤ, pos, negsuc, FitsSigned, ◌==◌, nat_lt, slice_index_or}
 use Rattle.std.specs.Int.Signed.{mag}
 use Rattle.std.specs.Int.{w32}
-use Rattle.std.specs.List.{AllByRecursion as All}
+use Rattle.std.specs.List.{AllByRecursion}
 use Rattle.codec.specs.declared.row.Row.{Row}
 use Rattle.codec.specs.Bytes.{cells_bytes, cells_of}
 
@@ -13,8 +13,8 @@ cell_at row at = slice_index_or row.cells at (pos 0)
 -- a row of that width: eight cells of 32 bits, zeros behind the width
 pub record Wide (w : ℕ) (r : Row) : Type 0 where
   pub eight : length r.cells ≡ 8
-  pub cells : All (FitsSigned w32) r.cells
-  pub zeros : All (λ z. z ≡ pos 0) (drop w r.cells)
+  pub cells : AllByRecursion (FitsSigned w32) r.cells
+  pub zeros : AllByRecursion (λ z. z ≡ pos 0) (drop w r.cells)
 
 -- the same as a test
 abbrev pub fits : ℤ → Bool

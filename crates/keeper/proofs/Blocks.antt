@@ -1,6 +1,6 @@
 -- A block taken from a child, in standing and in records. Assumes nothing.
 use Rattle.std.proofs.Common.{◌≡◌, ℕ, ◌+◌, ◌-◌, ◌*◌, ◌<◌, ◌≤◌, Bool, List, [], ◌∷◌, ◌++◌, length, Some, None, Option, sym, refl, ap, ◌∙◌, length-append}
-use Rattle.std.specs.List.{AllByRecursion as All}
+use Rattle.std.specs.List.{AllByRecursion}
 use Rattle.codec.specs.declared.row.Row.{Row}
 use Rattle.codec.specs.Rows.{Wide}
 use Rattle.operator.specs.Machine.{Machine}
@@ -18,7 +18,7 @@ taken_same b b' c c' x x' p q r = cc
 pub part_dumped : {S : Type 0} (m : Machine S) (back : Bool) (choices : List ℕ) (t : Taken S) → way_back back t.contract ≡ None → part_bytes m back choices t ≡ rows_bytes (m.width t.child) t.rows ++ m.saved t.child choices
 part_dumped m back choices t e = ap (λ (c : Option (List ℕ)). kept_bytes (m.width t.child) (kept_in t.rows c (m.saved t.child choices))) e
 
-pub part_length : {S : Type 0} (m : Machine S) (back : Bool) (choices : List ℕ) (t : Taken S) → m.width t.child ≤ 8 → All (Wide (m.width t.child)) t.rows → way_back back t.contract ≡ None
+pub part_length : {S : Type 0} (m : Machine S) (back : Bool) (choices : List ℕ) (t : Taken S) → m.width t.child ≤ 8 → AllByRecursion (Wide (m.width t.child)) t.rows → way_back back t.contract ≡ None
     → length (part_bytes m back choices t) ≡ length t.rows * (4 * m.width t.child) + length (m.saved t.child choices)
 part_length m back choices t le w e =
     ap length (part_dumped m back choices t e) ∙ length-append (rows_bytes (m.width t.child) t.rows) (m.saved t.child choices) ∙ ap (λ n. n + length (m.saved t.child choices)) (length_rows (m.width t.child) t.rows le w)

@@ -1,6 +1,6 @@
 -- Rows fetched again: what it gives, and the loop that does it. Assumes nothing.
 use Rattle.std.proofs.Common.{◌≡◌, ℕ, zero, suc, ◌+◌, ◌-◌, ◌<◌, ◌≤◌, List, [], ◌∷◌, ◌++◌, length, Some, None, Ok, Err, Option, Result, sym, refl, ap, ◌∙◌, subst, append_assoc, arith}
-use Rattle.std.specs.List.{AllByRecursion as All}
+use Rattle.std.specs.List.{AllByRecursion}
 use Rattle.std.proofs.lemmas.List.{length_push}
 use Rattle.std.proofs.ByRecursion.{All-push}
 use Rattle.refusal.specs.declared.Refusal.{Refusal}
@@ -23,7 +23,7 @@ module _ {S : Type 0} (m : Machine S) (d : Meaning S) (l : Laws m d) where
     pub contract : u.contract ≡ t.contract
     pub stands : d.standing u.child
     pub same : Same m t.child u.child
-    pub wide : All (Wide (m.width t.child)) u.rows
+    pub wide : AllByRecursion (Wide (m.width t.child)) u.rows
 
   abbrev pub Gets : ℕ → Taken S → Option (Taken S) → Type 0
   Gets n t None = length (d.rest t.child) < n
@@ -40,7 +40,7 @@ module _ {S : Type 0} (m : Machine S) (d : Meaning S) (l : Laws m d) where
         contract = h.contract;
         stands = h.stands;
         same = same_then m t.child x u.child s h.same;
-        wide = subst (λ (w : ℕ). All (Wide w) u.rows) (l.by_plan t.child x s.plan).width h.wide;
+        wide = subst (λ (w : ℕ). AllByRecursion (Wide w) u.rows) (l.by_plan t.child x s.plan).width h.wide;
       }
 
   after_busy : (n : ℕ) (t : Taken S) (x : S) (v : Option (Taken S)) → Same m t.child x → d.rest x ≡ d.rest t.child → Gets n (over t x) v → Gets n t v
@@ -51,7 +51,7 @@ module _ {S : Type 0} (m : Machine S) (d : Meaning S) (l : Laws m d) where
     contract = h.contract;
     stands = h.stands;
     same = same_then m t.child x u.child s h.same;
-    wide = subst (λ (w : ℕ). All (Wide w) u.rows) (l.by_plan t.child x s.plan).width h.wide;
+    wide = subst (λ (w : ℕ). AllByRecursion (Wide w) u.rows) (l.by_plan t.child x s.plan).width h.wide;
   }
 
   stuck : (n : ℕ) (x : S) (v : Move S) → d.togo x ≤ 0 → Meant m d x v → length (d.rest x) < suc n
@@ -59,17 +59,17 @@ module _ {S : Type 0} (m : Machine S) (d : Meaning S) (l : Laws m d) where
   stuck n x (busy u) k (p, q, r, s) = absurd (omega arith)
   stuck n x end k (p, q) = let z = ap length p in omega arith
 
-  by_move : (f n : ℕ) (t : Taken S) (v : Move S) (F : Row → S → Option (Taken S)) (G : S → Option (Taken S)) → m.operators t.child ≤ 16 → d.togo t.child ≤ suc f → All (Wide (m.width t.child)) t.rows → All (Wide (m.width t.child)) (d.rest t.child) → Meant m d t.child v
-      → ((b : Row) (x : S) → Good m d.standing x → d.togo x ≤ f → All (Wide (m.width x)) (t.rows ++ (b ∷ [])) → Gets n (with_row t b x) (F b x))
-      → ((x : S) → Good m d.standing x → d.togo x ≤ f → All (Wide (m.width x)) t.rows → Gets (suc n) (over t x) (G x))
+  by_move : (f n : ℕ) (t : Taken S) (v : Move S) (F : Row → S → Option (Taken S)) (G : S → Option (Taken S)) → m.operators t.child ≤ 16 → d.togo t.child ≤ suc f → AllByRecursion (Wide (m.width t.child)) t.rows → AllByRecursion (Wide (m.width t.child)) (d.rest t.child) → Meant m d t.child v
+      → ((b : Row) (x : S) → Good m d.standing x → d.togo x ≤ f → AllByRecursion (Wide (m.width x)) (t.rows ++ (b ∷ [])) → Gets n (with_row t b x) (F b x))
+      → ((x : S) → Good m d.standing x → d.togo x ≤ f → AllByRecursion (Wide (m.width x)) t.rows → Gets (suc n) (over t x) (G x))
       → Gets (suc n) t (fetch_by v F G)
   by_move f n t (row b x) F G few k w z (st, sa, re, to) p q =
-      after_row n t b x (F b x) sa re (p b x (carried m d l t.child x few sa st) (omega arith) (subst (λ (j : ℕ). All (Wide j) (t.rows ++ (b ∷ []))) (sym (l.by_plan t.child x sa.plan).width) (All-push (Wide (m.width t.child)) t.rows b w (subst (All (Wide (m.width t.child))) re z).0)))
+      after_row n t b x (F b x) sa re (p b x (carried m d l t.child x few sa st) (omega arith) (subst (λ (j : ℕ). AllByRecursion (Wide j) (t.rows ++ (b ∷ []))) (sym (l.by_plan t.child x sa.plan).width) (All-push (Wide (m.width t.child)) t.rows b w (subst (AllByRecursion (Wide (m.width t.child))) re z).0)))
   by_move f n t (busy x) F G few k w z (st, sa, re, to) p q =
-      after_busy (suc n) t x (G x) sa re (q x (carried m d l t.child x few sa st) (omega arith) (subst (λ (j : ℕ). All (Wide j) t.rows) (sym (l.by_plan t.child x sa.plan).width) w))
+      after_busy (suc n) t x (G x) sa re (q x (carried m d l t.child x few sa st) (omega arith) (subst (λ (j : ℕ). AllByRecursion (Wide j) t.rows) (sym (l.by_plan t.child x sa.plan).width) w))
   by_move f n t end F G few k w z (re, to) p q = let j = ap length re in omega arith
 
-  pub gets : (f n : ℕ) (t : Taken S) → Good m d.standing t.child → d.togo t.child ≤ f → All (Wide (m.width t.child)) t.rows → Gets n t (fetch m.next f n t)
+  pub gets : (f n : ℕ) (t : Taken S) → Good m d.standing t.child → d.togo t.child ≤ f → AllByRecursion (Wide (m.width t.child)) t.rows → Gets n t (fetch m.next f n t)
   unfolding fetch
   gets f zero t g k w = record { rows = refl; count = omega arith; contract = refl; stands = g.stands; same = same_self m t.child; wide = w }
   gets zero (suc n) t g k w = stuck n t.child (m.next t.child) k (l.moves t.child g)

@@ -1,6 +1,6 @@
 -- The laws of an operator over a block follow from its children's, its own steps and the width of its rows. Assumes nothing.
 use Rattle.std.proofs.Common.{◌≡◌, ℕ, ◌+◌, ◌-◌, ◌*◌, ◌<◌, ◌≤◌, min, max, Bool, true, false, eqb, List, [], ◌∷◌, ◌++◌, length, get_or, take, drop, replicate, Some, None, Option, sym, refl, ap, ◌∙◌, subst, one-add, arith, length-append}
-use Rattle.std.specs.List.{AllByRecursion as All}
+use Rattle.std.specs.List.{AllByRecursion}
 use Rattle.std.proofs.lemmas.List.{take-replicate, drop-replicate}
 use Rattle.std.proofs.lemmas.Bool.{eq-eqb}
 use Rattle.refusal.specs.Numbers.{Fault, either}
@@ -299,7 +299,7 @@ module _ {G S T : Type 0} (k : Kind G) (n : Sense G) (p : Proper k n) (o : Machi
         of_then _ _ (inner_at (k.phases.scans f.stage) (i.restored s.inner) (i.begin s.inner) f.tail) _ (inner_came s.inner (k.phases.scans f.stage) f.tail (omega arith)) (λ z b.
         finish f u z (h.ruled u.rows u.contract a.count a.dumped) a b))
 
-  module _ (wide : (s : Keeping G S T) → Good m w.standing s → All (Wide (m.width s)) (w.rest s)) where
+  module _ (wide : (s : Keeping G S T) → Good m w.standing s → AllByRecursion (Wide (m.width s)) (w.rest s)) where
     module _ (s : Keeping G S T) (few : m.operators s ≤ 16) (bytes : List ℕ) where
       read_some : (f : Fields G) → parsed k.phases (block_size s.terms) (o.width s.outer.child) (i.width s.inner) bytes ≡ Some f → (v : Option (Keeping G S T)) → Of (Whole s f) v → Read m w s bytes v (then v (λ t. Some (w.rest t)))
       read_some f h None q = tt
@@ -311,7 +311,7 @@ module _ {G S T : Type 0} (k : Kind G) (n : Sense G) (p : Proper k n) (o : Machi
             same = q.same;
             rest = refl;
             refetch = q.refetch ∙ sym (ap (refetch_of k.phases (o.refetch s.outer.child) (i.refetch s.inner)) h);
-            wide = subst (λ (j : ℕ). All (Wide j) (w.rest t)) a.width (wide t g);
+            wide = subst (λ (j : ℕ). AllByRecursion (Wide j) (w.rest t)) a.width (wide t g);
           }
 
       reads_by : (v : Option (Fields G)) → parsed k.phases (block_size s.terms) (o.width s.outer.child) (i.width s.inner) bytes ≡ v → Of (Valid k n p (block_size s.terms) (o.width s.outer.child) (i.width s.inner) (length bytes)) v
@@ -338,7 +338,7 @@ module _ {G S T : Type 0} (k : Kind G) (n : Sense G) (p : Proper k n) (o : Machi
   few : (s : Keeping G S T) (bytes : List ℕ) → m.refetch s bytes ≤ 16 * length bytes
   few s bytes = few_of s (length bytes) (parsed k.phases (block_size s.terms) (o.width s.outer.child) (i.width s.inner) bytes) (parsed_ok k n p (block_size s.terms) (o.width s.outer.child) (i.width s.inner) bytes (lo.sized s.outer.child).1 (li.sized s.inner).1)
 
-  pub laws : ((s : Keeping G S T) → Good m w.standing s → Meant m w s (next s)) → ((s : Keeping G S T) → Good m w.standing s → All (Wide (m.width s)) (w.rest s)) → Laws m w
+  pub laws : ((s : Keeping G S T) → Good m w.standing s → Meant m w s (next s)) → ((s : Keeping G S T) → Good m w.standing s → AllByRecursion (Wide (m.width s)) (w.rest s)) → Laws m w
   laws moves wide = record {
     by_plan = by_plan;
     alike = alike;

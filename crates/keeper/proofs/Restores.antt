@@ -1,6 +1,6 @@
 -- A block recorded and restored: its part keeps the rules, reads back, and what is read stands. Assumes nothing.
 use Rattle.std.proofs.Common.{◌≡◌, ℕ, ◌+◌, ◌-◌, ◌*◌, ◌<◌, ◌≤◌, Bool, true, false, List, [], ◌∷◌, ◌++◌, length, take, drop, replicate, Some, None, Option, sym, refl, ap, ◌∙◌, subst, arith, length-append}
-use Rattle.std.specs.List.{AllByRecursion as All}
+use Rattle.std.specs.List.{AllByRecursion}
 use Rattle.std.proofs.lemmas.List.{take_at, drop_at}
 use Rattle.codec.specs.declared.row.Row.{Row}
 use Rattle.codec.specs.Bytes.{of2}
@@ -22,7 +22,7 @@ way_holds : (back : Bool) (f : List ℕ → Option (List Row)) (rows : List Row)
 way_holds true f rows c h = h
 way_holds false f rows c h = tt
 
-sound_in : (v : ℕ) (f : List ℕ → Option (List Row)) (all rows : List Row) (c : Option (List ℕ)) (outer : List ℕ) → Holds f all c → All (Wide v) rows → length outer ≡ 2 + of2 outer → Sound v (kept_in rows c outer)
+sound_in : (v : ℕ) (f : List ℕ → Option (List Row)) (all rows : List Row) (c : Option (List ℕ)) (outer : List ℕ) → Holds f all c → AllByRecursion (Wide v) rows → length outer ≡ 2 + of2 outer → Sound v (kept_in rows c outer)
 sound_in v f all rows None outer h w l = (w, l)
 sound_in v f all rows (Some c) outer h w l = (h.one, h.short)
 
@@ -121,7 +121,7 @@ module _ {S : Type 0} (m : Machine S) (d : Meaning S) (l : Laws m d) where
         stands = record {
           child = h.stands;
           holds = subst (Holds (d.reading t.child) (t.rows ++ d.rest t.child)) (sym h.contract) held;
-          wide = subst (λ (w : ℕ). All (Wide w) t.rows) (sym (l.by_plan y t.child h.same.plan).width) h.wide;
+          wide = subst (λ (w : ℕ). AllByRecursion (Wide w) t.rows) (sym (l.by_plan y t.child h.same.plan).width) h.wide;
         };
         same = same;
         count = z;
@@ -131,7 +131,7 @@ module _ {S : Type 0} (m : Machine S) (d : Meaning S) (l : Laws m d) where
 
   pub built : (x : S) (k : Kept) → m.operators x ≤ 16 → Sound (m.width x) k → Of (Built x k) (rebuilt m d.togo (m.restored x) k)
   built x (dumped rows outer) few (w, one) = of_then _ _ (m.restored x outer) _ (came m d l x outer few) (λ y k. record {
-    stands = record { child = k.stands; holds = tt; wide = subst (λ (z : ℕ). All (Wide z) rows) (sym (l.by_plan x y k.same.plan).width) w };
+    stands = record { child = k.stands; holds = tt; wide = subst (λ (z : ℕ). AllByRecursion (Wide z) rows) (sym (l.by_plan x y k.same.plan).width) w };
     same = k.same;
     count = refl;
     dumped = λ e. refl;

@@ -1,6 +1,6 @@
 -- Good standing of a block as it is signed for, filled and dropped. Assumes nothing.
 use Rattle.std.proofs.Common.{◌≡◌, ℕ, ◌+◌, ◌<◌, ◌≤◌, Bool, true, false, cond, leb, List, [], ◌∷◌, ◌++◌, length, replicate, Some, None, Option, sym, refl, ap, ◌∙◌, subst, append_assoc}
-use Rattle.std.specs.List.{AllByRecursion as All}
+use Rattle.std.specs.List.{AllByRecursion}
 use Rattle.std.proofs.ByRecursion.{All-push}
 use Rattle.std.proofs.lemmas.Bool.{leb-true}
 use Rattle.codec.specs.declared.row.Row.{Row}
@@ -27,13 +27,13 @@ module _ {S : Type 0} (m : Machine S) (d : Meaning S) (l : Laws m d) where
       record { child = g.stands; holds = sign (d.reading x) (d.rest x) (back_record m x) (l.framed x all g) (l.readback x all g) (leb (length (back_record m x)) 512) refl; wide = tt }
 
   -- a row joins the block
-  pub takes : (t : Taken S) (b : Row) (x : S) → Stands m d t → All (Wide (m.width t.child)) (d.rest t.child) → d.standing x → Same m t.child x → d.rest t.child ≡ b ∷ d.rest x → Stands m d (with_row t b x)
+  pub takes : (t : Taken S) (b : Row) (x : S) → Stands m d t → AllByRecursion (Wide (m.width t.child)) (d.rest t.child) → d.standing x → Same m t.child x → d.rest t.child ≡ b ∷ d.rest x → Stands m d (with_row t b x)
   takes t b x st w sx sa e =
       let v = (l.by_plan t.child x sa.plan).width in
       record {
         child = sx;
         holds = holds_by _ _ _ _ t.contract (l.alike t.child x sa).reading (append_assoc t.rows (b ∷ []) (d.rest x) ∙ ap (λ (z : List Row). t.rows ++ z) (sym e)) st.holds;
-        wide = subst (λ (n : ℕ). All (Wide n) (t.rows ++ (b ∷ []))) (sym v) (All-push (Wide (m.width t.child)) t.rows b st.wide (subst (All (Wide (m.width t.child))) e w).0);
+        wide = subst (λ (n : ℕ). AllByRecursion (Wide n) (t.rows ++ (b ∷ []))) (sym v) (All-push (Wide (m.width t.child)) t.rows b st.wide (subst (AllByRecursion (Wide (m.width t.child))) e w).0);
       }
 
   -- the child was busy
@@ -41,7 +41,7 @@ module _ {S : Type 0} (m : Machine S) (d : Meaning S) (l : Laws m d) where
   waits t x st sx sa e = record {
     child = sx;
     holds = holds_by _ _ _ _ t.contract (l.alike t.child x sa).reading (ap (λ (z : List Row). t.rows ++ z) e) st.holds;
-    wide = subst (λ (n : ℕ). All (Wide n) t.rows) (sym (l.by_plan t.child x sa.plan).width) st.wide;
+    wide = subst (λ (n : ℕ). AllByRecursion (Wide n) t.rows) (sym (l.by_plan t.child x sa.plan).width) st.wide;
   }
 
   -- block and contract are dropped

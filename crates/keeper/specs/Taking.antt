@@ -1,6 +1,6 @@
 -- A block of an outer child's rows: how it fills, is recorded and is restored. Assumes nothing.
 use Rattle.std.specs.Prelude.{◌≡◌, ℕ, zero, suc, ◌+◌, ◌≤◌, Bool, true, false, List, [], ◌∷◌, ◌++◌, length, replicate, Some, None, Option}
-use Rattle.std.specs.List.{AllByRecursion as All}
+use Rattle.std.specs.List.{AllByRecursion}
 use Rattle.codec.specs.declared.row.Row.{Row}
 use Rattle.codec.specs.Bytes.{of2}
 use Rattle.codec.specs.Frames.{then}
@@ -97,4 +97,4 @@ Holds reading rows (Some bytes) = Signed reading rows bytes
 pub record Stands {S : Type 0} (m : Machine S) (d : Meaning S) (t : Taken S) : Type 0 where
   pub child : d.standing t.child
   pub holds : Holds (d.reading t.child) (t.rows ++ d.rest t.child) t.contract
-  pub wide : All (Wide (m.width t.child)) t.rows
+  pub wide : AllByRecursion (Wide (m.width t.child)) t.rows

@@ -1,6 +1,6 @@
 -- The meaning that every operator's machine keeps. Assumes nothing.
 use Rattle.std.specs.Prelude.{◌≡◌, ℕ, ◌+◌, ◌*◌, ◌<◌, ◌≤◌, List, [], ◌∷◌, length, replicate, Some, None, Option}
-use Rattle.std.specs.List.{AllByRecursion as All}
+use Rattle.std.specs.List.{AllByRecursion}
 use Rattle.codec.specs.declared.row.Row.{Row}
 use Rattle.codec.specs.Bytes.{of2}
 use Rattle.codec.specs.Rows.{Wide}
@@ -70,7 +70,7 @@ module _ {S : Type 0} (m : Machine S) (d : Meaning S) where
     pub same : Same m s t
     pub rest : d.rest t ≡ rows
     pub refetch : m.refetch t (m.saved t (replicate (m.keepers t) 2)) ≡ m.refetch s bytes
-    pub wide : All (Wide (m.width s)) rows
+    pub wide : AllByRecursion (Wide (m.width s)) rows
 
   -- there is such a state exactly where there is a reading
   abbrev pub Read : S → List ℕ → Option S → Option (List Row) → Type 0
@@ -89,7 +89,7 @@ module _ {S : Type 0} (m : Machine S) (d : Meaning S) where
     pub planned : (s : S) → Planned (m.operators s) (m.keepers s) (m.plan s)
     -- rows have 1 to 8 cells, and those to come have the width
     pub sized : (s : S) → (1 ≤ m.width s) × (m.width s ≤ 8)
-    pub wide : (s : S) → Good m d.standing s → All (Wide (m.width s)) (d.rest s)
+    pub wide : (s : S) → Good m d.standing s → AllByRecursion (Wide (m.width s)) (d.rest s)
     -- steps and the beginning
     pub moves : (s : S) → Good m d.standing s → Meant s (m.next s)
     pub begins : (s : S) → Begun s (m.begin s)

@@ -1,6 +1,6 @@
 -- The rows of a block join have the sum of the widths, at most eight. Assumes nothing.
 use Rattle.std.proofs.Common.{◌≡◌, ℕ, zero, suc, ◌+◌, ◌-◌, ◌<◌, ◌≤◌, min, Bool, true, false, cond, List, [], ◌∷◌, ◌++◌, length, take, drop, ℤ, pos, sym, ap, ◌∙◌, subst, ⊎_elim, arith, length-append, length-take, w32, SFits}
-use Rattle.std.specs.List.{AllByRecursion as All}
+use Rattle.std.specs.List.{AllByRecursion}
 use Rattle.std.proofs.ByRecursion.{All-append, All-take, All-drop}
 use Rattle.std.proofs.lemmas.List.{drop_all, drop_at, drop-drop, drop-take, length-take-le}
 use Rattle.std.proofs.lemmas.Bool.{cases_lt}
@@ -20,7 +20,7 @@ module _ (v w : ℕ) (a b : Row) (le : v ≤ 8) (x : Wide v a) (y : Wide w b) wh
   eight = let f = front in let e = y.eight in simp (length-take, length-append) (omega arith)
 
   abbrev Blank : List ℤ → Type 0
-  Blank zs = All (λ z. z ≡ pos 0) zs
+  Blank zs = AllByRecursion (λ z. z ≡ pos 0) zs
 
   narrow : v + w ≤ 8 → Blank (drop (min 8 (v + w)) (take 8 cells))
   narrow h =
@@ -50,9 +50,9 @@ module _ (v w : ℕ) (r : Terms) (le : v ≤ 8) where
   p = record { terms = r; width = v }
 
   abbrev Rows : List Row → Type 0
-  Rows rows = All (Wide (min 8 (v + w))) rows
+  Rows rows = AllByRecursion (Wide (min 8 (v + w))) rows
 
-  matched : (bs : List Row) (x : Row) → All (Wide v) bs → Wide w x → Rows (matches p bs x)
+  matched : (bs : List Row) (x : Row) → AllByRecursion (Wide v) bs → Wide w x → Rows (matches p bs x)
   unfolding matches
   matched [] x h k = tt
   matched (b ∷ bs) x (h, hs) k = by (match r b x) (matched bs x hs k)
@@ -61,27 +61,27 @@ module _ (v w : ℕ) (r : Terms) (le : v ≤ 8) where
       by true l = (wide v w b x le h k, l)
       by false l = l
 
-  over : (bs xs : List Row) → All (Wide v) bs → All (Wide w) xs → Rows (scanned p bs xs)
+  over : (bs xs : List Row) → AllByRecursion (Wide v) bs → AllByRecursion (Wide w) xs → Rows (scanned p bs xs)
   unfolding scanned
   over bs [] h k = tt
   over bs (x ∷ xs) h (k, ks) = All-append (Wide (min 8 (v + w))) (matches p bs x) (scanned p bs xs) (matched bs x h k) (over bs xs h ks)
 
-  each : (blocks : List (List Row)) (xs : List Row) → All (All (Wide v)) blocks → All (Wide w) xs → Rows (joined p blocks xs)
+  each : (blocks : List (List Row)) (xs : List Row) → AllByRecursion (AllByRecursion (Wide v)) blocks → AllByRecursion (Wide w) xs → Rows (joined p blocks xs)
   unfolding joined
   each [] xs h k = tt
   each (bs ∷ others) xs (h, hs) k = All-append (Wide (min 8 (v + w))) (scanned p bs xs) (joined p others xs) (over bs xs h k) (each others xs hs k)
 
-  cut : (n size : ℕ) (rows : List Row) → All (Wide v) rows → All (All (Wide v)) (cut_up n size rows)
+  cut : (n size : ℕ) (rows : List Row) → AllByRecursion (Wide v) rows → AllByRecursion (AllByRecursion (Wide v)) (cut_up n size rows)
   unfolding cut_up
   cut zero size rows h = tt
   cut (suc n) size [] h = tt
   cut (suc n) size (x ∷ xs) h = (All-take (Wide v) size (x ∷ xs) h, cut n size (drop size (x ∷ xs)) (All-drop (Wide v) size (x ∷ xs) h))
 
-pub matches_wide : (v w : ℕ) (r : Terms) → v ≤ 8 → (bs : List Row) (x : Row) → All (Wide v) bs → Wide w x → All (Wide (min 8 (v + w))) (matches (record { terms = r; width = v }) bs x)
+pub matches_wide : (v w : ℕ) (r : Terms) → v ≤ 8 → (bs : List Row) (x : Row) → AllByRecursion (Wide v) bs → Wide w x → AllByRecursion (Wide (min 8 (v + w))) (matches (record { terms = r; width = v }) bs x)
 matches_wide = matched
 
-pub scanned_wide : (v w : ℕ) (r : Terms) → v ≤ 8 → (bs xs : List Row) → All (Wide v) bs → All (Wide w) xs → All (Wide (min 8 (v + w))) (scanned (record { terms = r; width = v }) bs xs)
+pub scanned_wide : (v w : ℕ) (r : Terms) → v ≤ 8 → (bs xs : List Row) → AllByRecursion (Wide v) bs → AllByRecursion (Wide w) xs → AllByRecursion (Wide (min 8 (v + w))) (scanned (record { terms = r; width = v }) bs xs)
 scanned_wide = over
 
-pub joined_wide : (v w : ℕ) (r : Terms) → v ≤ 8 → (size : ℕ) (outer inner : List Row) → All (Wide v) outer → All (Wide w) inner → All (Wide (min 8 (v + w))) (joined (record { terms = r; width = v }) (blocks size outer) inner)
+pub joined_wide : (v w : ℕ) (r : Terms) → v ≤ 8 → (size : ℕ) (outer inner : List Row) → AllByRecursion (Wide v) outer → AllByRecursion (Wide w) inner → AllByRecursion (Wide (min 8 (v + w))) (joined (record { terms = r; width = v }) (blocks size outer) inner)
 joined_wide v w r le size outer inner h k = each v w r le (blocks size outer) inner (cut v w r le (length outer) size outer h) k

@@ -2,7 +2,7 @@
 use Rattle.std.proofs.Common.{◌≡◌, ℕ, zero, suc, ◌+◌, ◌-◌, ◌*◌, ◌^◌, ◌<◌, ◌≤◌, Bool, true, false, ltb, length, get_or, ℤ, pos, negsuc, ◌*ℤ◌, Decides, sym, refl, ap, ◌∙◌, subst, ⊎_elim, mul-le-mul_right, arith, w32, w64, SFits, to_z, of_z}
 use lib.IntN.{zero-*ℤ}
 use lib.Signed.{mag, le_z}
-use Rattle.std.specs.List.{range_with_len, AllByRecursion as All}
+use Rattle.std.specs.List.{range_with_len, AllByRecursion}
 use Rattle.std.proofs.lemmas.List.FromFn.{length-map-range_with_len, get_or-map-range_with_len}
 use Rattle.std.proofs.ByRecursion.{All-map, All-get_or}
 use Rattle.std.proofs.lemmas.Int.{ints, to_z-of_z}
@@ -65,7 +65,7 @@ row_wide a s i h f = record {
   zeros = (refl, (refl, (refl, (refl, (refl, (refl, tt))))));
 }
 
-counted : (P : ℕ → Type 0) (a n m : ℕ) → a + n ≤ m → ((i : ℕ) → i < m → P i) → All P (range_with_len a n)
+counted : (P : ℕ → Type 0) (a n m : ℕ) → a + n ≤ m → ((i : ℕ) → i < m → P i) → AllByRecursion P (range_with_len a n)
 counted P a zero m h f = tt
 counted P a (suc n) m h f = (f a (omega arith), counted P (a + 1) n m (omega arith) f)
 

@@ -1,7 +1,7 @@
 -- What a source means: a width and at most 4,096 rows of that width. Assumes nothing.
 use Rattle.std.specs.Prelude.{◌≡◌, ℕ, ◌≤◌, min, max, Bool, true, false, ◌&&◌, List, [], ◌∷◌, length, nat_le, refl}
 use Rattle.std.proofs.Common.{arith}
-use Rattle.std.specs.List.{AllByRecursion as All}
+use Rattle.std.specs.List.{AllByRecursion}
 use Rattle.std.proofs.lemmas.Bool.{and_from, le-leb}
 use Rattle.codec.specs.declared.row.Row.{Row}
 use Rattle.codec.specs.Rows.{Wide, wide}
@@ -15,7 +15,7 @@ pub record Sound (w : ℕ) (rows : Content) : Type 0 where
   pub some : 1 ≤ w
   pub narrow : w ≤ 8
   pub few : length rows ≤ 4096
-  pub wide : All (Wide w) rows
+  pub wide : AllByRecursion (Wide w) rows
 
 -- the same as a test
 abbrev pub all_wide : ℕ → Content → Bool

@@ -1,5 +1,5 @@
 use Rattle.std.proofs.Common.{◌≡◌, ℕ, List, [], ◌∷◌, length, arith}
-use Rattle.std.specs.List.{AllByRecursion as All}
+use Rattle.std.specs.List.{AllByRecursion}
 use Rattle.codec.specs.Bytes.{be2, be4, of2, of4, cell_bytes, cell_of}
 use Rattle.codec.specs.Layouts.{Byte}
 use Rattle.codec.proofs.Laws as laws
@@ -7,13 +7,13 @@ use Rattle.codec.proofs.Rows as rows
 use Rattle.codec.proofs.Frames.{body_framed, framed_body}
 use Rattle.codec.proofs.row.layouts_read_back.Goals as goal
 
-two : (bs : List ℕ) → All Byte bs → length bs ≡ 2 → be2 (of2 bs) ≡ bs
+two : (bs : List ℕ) → AllByRecursion Byte bs → length bs ≡ 2 → be2 (of2 bs) ≡ bs
 two [] h e = absurd (omega arith)
 two (a ∷ []) h e = absurd (omega arith)
 two (a ∷ b ∷ []) (p, (q, h)) e = laws.be2_of2 a b p q
 two (a ∷ b ∷ x ∷ bs) h e = absurd (omega arith)
 
-four : (f : List ℕ → List ℕ) → ((a b c d : ℕ) → Byte a → Byte b → Byte c → Byte d → f (a ∷ b ∷ c ∷ d ∷ []) ≡ a ∷ b ∷ c ∷ d ∷ []) → (bs : List ℕ) → All Byte bs → length bs ≡ 4 → f bs ≡ bs
+four : (f : List ℕ → List ℕ) → ((a b c d : ℕ) → Byte a → Byte b → Byte c → Byte d → f (a ∷ b ∷ c ∷ d ∷ []) ≡ a ∷ b ∷ c ∷ d ∷ []) → (bs : List ℕ) → AllByRecursion Byte bs → length bs ≡ 4 → f bs ≡ bs
 four f k [] h e = absurd (omega arith)
 four f k (a ∷ []) h e = absurd (omega arith)
 four f k (a ∷ b ∷ []) h e = absurd (omega arith)

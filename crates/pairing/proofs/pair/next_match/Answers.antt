@@ -6,7 +6,7 @@ use Rattle.pairing.proofs.pair.next_match.Goals as goal
 pub returns-then-matches : goal.returns-then-matches
 returns-then-matches c =
     let h = first_hit (record { terms = _; width = c.args.width }) c.args.rows.now c.args.held.now c.loop-at.at _ (omega arith) (sym c.if-matches.ensures.0) in
-    subst (λ (v : Option Hit). Emits v (Some (c.loop-at.at + 1)) c.args.row.now c.row_joined.result) (sym (c.loop-at.invariant.1 ∙ h)) (refl, c.row_joined.ensures)
+    subst (λ (v : Option Hit). Emits v (Some (c.loop-at.at + 1)) c.args.row.now c.joined_row.result) (sym (c.loop-at.invariant.1 ∙ h)) (refl, c.joined_row.ensures)
 
 pub loop-at-preserved : goal.loop-at-preserved
 loop-at-preserved c =

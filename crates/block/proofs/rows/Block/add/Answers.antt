@@ -5,6 +5,6 @@ use Rattle.block.proofs.rows.Block.add.Goals as goal
 pub returns-then-at-lt-BLOCK_ROWS : goal.returns-then-at-lt-BLOCK_ROWS
 returns-then-at-lt-BLOCK_ROWS c = λ few.
     let l : length c.args.self.now.rows ≡ 16 = search rules in
-    let e = simp length-take at (ap length c.rows_at.ensures.is) in
-    let n : length c.rows_at.result.now ≡ c.args.self.now.count = omega arith in
-    take_more_set c.args.self.now.rows (length c.rows_at.result.now) c.args.row (omega arith) ∙ ap (λ (k : ℕ). take k c.args.self.now.rows ++ (c.args.row ∷ [])) n
+    let e = simp length-take at (ap length c.rows-at.ensures.is) in
+    let n : length c.rows-at.result.now ≡ c.args.self.now.count = omega arith in
+    take_more_set c.args.self.now.rows (length c.rows-at.result.now) c.args.row (omega arith) ∙ ap (λ (k : ℕ). take k c.args.self.now.rows ++ (c.args.row ∷ [])) n

@@ -8,7 +8,7 @@ use Rattle.pairing.proofs.rule.JoinRule.matches.Goals as goal
 pub returns : goal.returns
 returns c =
     let f : SFits w32 c.args.self.now.band = search rules in
-    let l : SFits w32 c.cell_left.result = search rules in
-    let r : SFits w32 c.cell_right.result = search rules in
+    let l : SFits w32 c.cell-left.result = search rules in
+    let r : SFits w32 c.cell-right.result = search rules in
     matched _ (terms_of c.args.self.now) c.args.outer.now c.args.inner.now _ _ _ _ c.joins.ensures.0 c.from.ensures
-    (to_z-of_z w32 _ f ∙ sym (cell_back _ f)) (to_z-of_z w32 _ l ∙ c.cell_left.ensures) (to_z-of_z w32 _ r ∙ c.cell_right.ensures)
+    (to_z-of_z w32 _ f ∙ sym (cell_back _ f)) (to_z-of_z w32 _ l ∙ c.cell-left.ensures) (to_z-of_z w32 _ r ∙ c.cell-right.ensures)
