@@ -1,6 +1,7 @@
 // The operator.
 ghost use Rattle.std.specs.Prelude.{◌≡◌, ℕ, ◌≤◌, length};
 ghost use Rattle.operator.specs.Machine.{Good, New};
+ghost use Rattle.operator.specs.Laws.{meaning};
 ghost use Rattle.operator.specs.Of.{of};
 ghost use Rattle.pairing.specs.Terms.{terms_of, block_size};
 ghost use Rattle.pairing.specs.Joined.{Join};
@@ -11,6 +12,7 @@ ghost use Rattle.keeper.specs.Outer.{Restores};
 ghost use Rattle.block_join.specs.Stages.{Stage, empty, within_scan, join_kind};
 ghost use Rattle.block_join.specs.Joining.{join_machine, join_meaning};
 ghost use Rattle.block_join.specs.Code.{stage_of, joining, Asked};
+ghost use Rattle.block_join.specs.Laws;
 
 use crate::front::{front_size, write_front_at};
 use crate::parts::parts_in;
@@ -131,6 +133,8 @@ impl<O: Operator, I: Operator> Operator for BlockJoin<O, I> {
     ghost reading = { (join_meaning O.Operator.machine (of O.Operator) I.Operator.machine (of I.Operator)).reading };
 
     ghost standing = { (join_meaning O.Operator.machine (of O.Operator) I.Operator.machine (of I.Operator)).standing };
+
+    ghost laws = { Laws.laws O.Operator.machine (meaning O.Operator.whole O.Operator.rest O.Operator.full O.Operator.togo O.Operator.reading O.Operator.standing) O.Operator.laws I.Operator.machine (meaning I.Operator.whole I.Operator.rest I.Operator.full I.Operator.togo I.Operator.reading I.Operator.standing) I.Operator.laws };
 
     fn operators(&self) -> usize {
         (1 + self.outer.child.operators() + self.inner.operators()).min(17)

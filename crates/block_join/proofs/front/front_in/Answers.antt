@@ -6,7 +6,7 @@ use Rattle.block_join.proofs.front.front_in.Goals as goal
 pub returns-then-phase-ne0 : goal.returns-then-phase-ne0
 returns-then-phase-ne0 c =
     let l : 2 ≤ length c.args.bytes.now = search rules in
-    leads_counted c.args.size (min 8 c.args.width) c.args.bytes.now _ l c.if-phase-ne0.true (take_rest c.args.bytes.now 2) ∙ c.counts_at.ensures
+    leads_counted c.args.size (min 8 c.args.width) c.args.bytes.now _ l c.if-phase-ne0.true (take_rest c.args.bytes.now 2) ∙ c.counted_at.ensures
 
 pub returns-then-form-ne0 : goal.returns-then-form-ne0
 returns-then-form-ne0 c =

@@ -20,14 +20,14 @@ pub returns-in-Some-part_of : goal.returns-in-Some-part_of
 returns-in-Some-part_of c =
     let v = min 8 c.args.outer_width in
     record {
-      is = all_parts c.args.size v (min 8 c.args.inner_width) c.args.bytes.now c.in-Some.body.now (front_as c.in-Some-front_in.front) c.within_scan.result (part_of v c.in-Some-part_of.part)
-          c.in-Some.ensures c.in-Some-front_in.ensures c.within_scan.ensures c.in-Some-part_of.ensures.is;
+      is = all_parts c.args.size v (min 8 c.args.inner_width) c.args.bytes.now c.in-Some.body.now (front_as c.in-Some-front_in.front) c.in_scan.result (part_of v c.in-Some-part_of.part)
+          c.in-Some.ensures c.in-Some-front_in.ensures c.in_scan.ensures c.in-Some-part_of.ensures.is;
       enough = c.in-Some-part_of.ensures.enough;
     }
 
 pub returns-in-None : goal.returns-in-None
 returns-in-None c = record {
-  is = no_block c.args.size (min 8 c.args.outer_width) (min 8 c.args.inner_width) c.args.bytes.now c.in-Some.body.now (front_as c.in-Some-front_in.front) c.within_scan.result
-      c.in-Some.ensures c.in-Some-front_in.ensures c.within_scan.ensures c.in-None.ensures.is;
+  is = no_block c.args.size (min 8 c.args.outer_width) (min 8 c.args.inner_width) c.args.bytes.now c.in-Some.body.now (front_as c.in-Some-front_in.front) c.in_scan.result
+      c.in-Some.ensures c.in-Some-front_in.ensures c.in_scan.ensures c.in-None.ensures.is;
   enough = tt;
 }

@@ -6,7 +6,7 @@ use Rattle.keeper.proofs.Codes.{apart, no_block, both}
 use Rattle.block_join.specs.Stages.{join_kind}
 use Rattle.block_join.specs.Joining.{join_sense, next}
 use Rattle.block_join.specs.Code.{joining, stage_of}
-use Rattle.block_join.proofs.Fronts.{proper}
+use Rattle.block_join.specs.Fronts.{proper}
 use Rattle.block_join.proofs.Cuts.{begin_both}
 use Rattle.block_join.proofs.join.BlockJoin.resume.Goals as goal
 
@@ -39,6 +39,6 @@ returns g c =
     let li = g.met.I.Operator.laws in
     let a = apart join_kind join_sense proper o.machine (of o) lo i.machine (of i) li (next o.machine i.machine) s bs c.block_size-size.result c.width.result c.width-2.result (stage_of q.phase) q.stored q.tail.now c.block_size-size.ensures c.width.ensures c.width-2.ensures c.in-Some.ensures.is c.in-Some.ensures.enough in
     record {
-      restored = λ few. both join_kind join_sense proper o.machine (of o) lo i.machine (of i) li (next o.machine i.machine) s bs _ (taken_of o c.load.new.self) _ a.is (c.in_ok-load.ensures.restored (omega arith) a.loadable) _ c.load_or_rewind.result c.within_scan.result c.within_scan.ensures (c.load_or_rewind.ensures.loaded (omega arith));
+      restored = λ few. both join_kind join_sense proper o.machine (of o) lo i.machine (of i) li (next o.machine i.machine) s bs _ (taken_of o c.load.new.self) _ a.is (c.in_ok-load.ensures.restored (omega arith) a.loadable) _ c.load_or_rewind.result c.in_scan.result c.in_scan.ensures (c.load_or_rewind.ensures.loaded (omega arith));
       begins = λ few. begin_both s.terms _ _ _ _ (c.in_ok-load.ensures.begins (omega arith)) (c.load_or_rewind.ensures.begins (omega arith));
     }

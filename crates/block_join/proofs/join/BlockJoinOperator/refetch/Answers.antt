@@ -9,8 +9,8 @@ use Rattle.keeper.proofs.Laws.{saved_parsed}
 use Rattle.block_join.specs.Stages.{within_scan, join_kind}
 use Rattle.block_join.specs.Joining.{join_sense, join_machine, next}
 use Rattle.block_join.specs.Code.{joining}
-use Rattle.block_join.proofs.Fronts.{proper}
-use Rattle.block_join.proofs.Laws.{laws}
+use Rattle.block_join.specs.Fronts.{proper}
+use Rattle.block_join.specs.Laws.{laws}
 use Rattle.block_join.proofs.join.BlockJoinOperator.refetch.Goals as goal
 
 pub returns : goal.returns
@@ -23,9 +23,9 @@ returns g c = λ good.
     let cs = c.args.choices.now in
     let lo = g.met.O.Operator.laws in
     let li = g.met.I.Operator.laws in
-    let h = chosen join_kind join_sense proper o.machine (of o) lo i.machine (of i) li (next o.machine i.machine) s cs c.choices_of_outer.result.now c.choices_of_inner.result.now c.keepers-keepers.result good c.keepers-keepers.ensures c.choices_of_outer.ensures c.choices_of_inner.ensures in
+    let h = chosen join_kind join_sense proper o.machine (of o) lo i.machine (of i) li (next o.machine i.machine) s cs c.outer_choices.result.now c.inner_choices.result.now c.keepers-keepers.result good c.keepers-keepers.ensures c.outer_choices.ensures c.inner_choices.ensures in
     let f = fields join_kind.phases o.machine i.machine s cs in
-    let a = c.refetch-part.ensures h.fine ∙ ap (λ (b : Bool). refetch_kept (o.machine.refetch x) (kept_for o.machine b c.choices_of_outer.result.now s.outer)) c.goes_back.ensures ∙ ap (λ (l : List ℕ). refetch_kept (o.machine.refetch x) (kept_for o.machine (goes_back cs) l s.outer)) h.outers in
+    let a = c.refetch-part.ensures h.fine ∙ ap (λ (b : Bool). refetch_kept (o.machine.refetch x) (kept_for o.machine b c.outer_choices.result.now s.outer)) c.goes_back.ensures ∙ ap (λ (l : List ℕ). refetch_kept (o.machine.refetch x) (kept_for o.machine (goes_back cs) l s.outer)) h.outers in
     let b = c.tail_refetch.ensures h.inner ∙ ap (λ (l : List ℕ). refetch_tail (within_scan s.stage) (i.machine.refetch y) (only (within_scan s.stage) (i.machine.saved y l))) h.inners in
     let m = join_machine o.machine o.togo i.machine in
     let all : m.refetch s (m.saved s cs) ≡ refetch_in join_kind.phases (o.machine.refetch x) (i.machine.refetch y) f = ap (refetch_of join_kind.phases (o.machine.refetch x) (i.machine.refetch y)) (saved_parsed join_kind join_sense proper o.machine (of o) lo i.machine (of i) li (next o.machine i.machine) s cs good) in

@@ -5,8 +5,8 @@ use Rattle.keeper.proofs.Codes.{apart, record_bound}
 use Rattle.block_join.specs.Stages.{join_kind}
 use Rattle.block_join.specs.Joining.{join_sense, next}
 use Rattle.block_join.specs.Code.{joining, stage_of}
-use Rattle.block_join.proofs.Fronts.{proper}
-use Rattle.block_join.proofs.Laws.{laws}
+use Rattle.block_join.specs.Fronts.{proper}
+use Rattle.block_join.specs.Laws.{laws}
 use Rattle.block_join.proofs.join.BlockJoinOperator.refetch_of.Goals as goal
 
 pub returns-then-in_scan : goal.returns-then-in_scan

@@ -16,7 +16,7 @@ use Rattle.keeper.proofs.Restores.{kept_counts, kept_forms}
 use Rattle.block_join.specs.Stages.{lead, within_scan, join_kind}
 use Rattle.block_join.specs.Joining.{join_sense, next}
 use Rattle.block_join.specs.Code.{joining}
-use Rattle.block_join.proofs.Fronts.{proper}
+use Rattle.block_join.specs.Fronts.{proper}
 use Rattle.block_join.proofs.Steps.{indexed}
 use Rattle.block_join.proofs.join.BlockJoinOperator.save.Goals as goal
 
@@ -31,17 +31,17 @@ returns g c = λ good.
     let cs = c.args.choices.now in
     let lo = g.met.O.Operator.laws in
     let li = g.met.I.Operator.laws in
-    let h = chosen join_kind join_sense proper o.machine (of o) lo i.machine (of i) li (next o.machine i.machine) s cs c.outer_choices-outers.result.now c.choices_of_inner.result.now c.keepers-keepers.result good c.keepers-keepers.ensures c.outer_choices-outers.ensures c.choices_of_inner.ensures in
+    let h = chosen join_kind join_sense proper o.machine (of o) lo i.machine (of i) li (next o.machine i.machine) s cs c.outer_choices-outers.result.now c.inner_choices.result.now c.keepers-keepers.result good c.keepers-keepers.ensures c.outer_choices-outers.ensures c.inner_choices.ensures in
     let f = fields join_kind.phases o.machine i.machine s cs in
     let ob = o.machine.saved x (choices_of_outer (o.machine.keepers x) cs) in
     let part = part_bytes o.machine (goes_back cs) (choices_of_outer (o.machine.keepers x) cs) s.outer in
     let tail = only (within_scan s.stage) (i.machine.saved y (choices_of_inner (o.machine.keepers x) cs)) in
     let front = lead (i.machine.width y) (kept_form f.kept) (kept_count f.kept) s.stage in
-    let ww : min 8 c.width_width.result ≡ i.machine.width y = omega (arith, c.width_width.ensures, (li.sized y).1) in
+    let ww : min 8 c.width-width.result ≡ i.machine.width y = omega (arith, c.width-width.ensures, (li.sized y).1) in
     let count : length c.rows.result.now % 256 ≡ kept_count f.kept = omega (arith, ap length c.rows.ensures.is, c.rows.ensures.few, kept_counts (goes_back cs) s.outer ob) in
-    let form : c.form_form.result ≡ kept_form f.kept = c.form_form.ensures ∙ ap (λ b. form_by b s.outer.contract) c.goes_back-back.ensures ∙ sym (kept_forms (goes_back cs) s.outer ob) in
-    let led : lead (min 8 c.width_width.result) c.form_form.result (length c.rows.result.now % 256) s.stage ≡ front =
-    ap (λ (j : ℕ). lead j c.form_form.result (length c.rows.result.now % 256) s.stage) ww ∙ ap (λ (j : ℕ). lead (i.machine.width y) j (length c.rows.result.now % 256) s.stage) form ∙ ap (λ (j : ℕ). lead (i.machine.width y) (kept_form f.kept) j s.stage) count in
+    let form : c.form-form.result ≡ kept_form f.kept = c.form-form.ensures ∙ ap (λ b. form_by b s.outer.contract) c.goes_back-back.ensures ∙ sym (kept_forms (goes_back cs) s.outer ob) in
+    let led : lead (min 8 c.width-width.result) c.form-form.result (length c.rows.result.now % 256) s.stage ≡ front =
+    ap (λ (j : ℕ). lead j c.form-form.result (length c.rows.result.now % 256) s.stage) ww ∙ ap (λ (j : ℕ). lead (i.machine.width y) j (length c.rows.result.now % 256) s.stage) form ∙ ap (λ (j : ℕ). lead (i.machine.width y) (kept_form f.kept) j s.stage) count in
     let size = c.size-size.ensures good in
     let head : c.frame_head.result ≡ be2 (length (front ++ (part ++ tail))) = c.frame_head.ensures ∙ ap be2 (omega (arith, size, framed_length (front ++ (part ++ tail)), c.saturating_sub.ensures)) in
     let p1 = puts_as 0 _ _ _ c.args.buffer.now _ head c.write_at-front.ensures in

@@ -9,8 +9,8 @@ use Rattle.keeper.proofs.Codes.{chosen, same_part}
 use Rattle.block_join.specs.Stages.{lead, within_scan, join_kind}
 use Rattle.block_join.specs.Joining.{join_sense, next}
 use Rattle.block_join.specs.Code.{joining, stage_of}
-use Rattle.block_join.proofs.Fronts.{proper}
-use Rattle.block_join.proofs.Laws.{laws}
+use Rattle.block_join.specs.Fronts.{proper}
+use Rattle.block_join.specs.Laws.{laws}
 use Rattle.block_join.proofs.join.BlockJoinOperator.size.Goals as goal
 
 pub overflow_add-front : goal.overflow_add-front
@@ -26,7 +26,7 @@ returns g c = λ good.
     let cs = c.args.choices.now in
     let lo = g.met.O.Operator.laws in
     let li = g.met.I.Operator.laws in
-    let h = chosen join_kind join_sense proper o.machine (of o) lo i.machine (of i) li (next o.machine i.machine) s cs c.choices_of_outer.result.now c.choices_of_inner.result.now c.keepers-keepers.result good c.keepers-keepers.ensures c.choices_of_outer.ensures c.choices_of_inner.ensures in
+    let h = chosen join_kind join_sense proper o.machine (of o) lo i.machine (of i) li (next o.machine i.machine) s cs c.outer_choices.result.now c.inner_choices.result.now c.keepers-keepers.result good c.keepers-keepers.ensures c.outer_choices.ensures c.inner_choices.ensures in
     let f = fields join_kind.phases o.machine i.machine s cs in
     let part = part_bytes o.machine (goes_back cs) (choices_of_outer (o.machine.keepers x) cs) s.outer in
     let tail = only (within_scan s.stage) (i.machine.saved y (choices_of_inner (o.machine.keepers x) cs)) in

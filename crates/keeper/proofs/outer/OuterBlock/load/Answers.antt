@@ -12,8 +12,8 @@ use Rattle.keeper.proofs.Blocks.{taken_same}
 use Rattle.keeper.proofs.Loads.{loaded_ok, loaded_err, signed_so, begin_loaded, good_loaded, refused_as, dumped_as, owed_as}
 use Rattle.keeper.proofs.outer.OuterBlock.load.Goals as goal
 
-pub returns-in_err-load : goal.returns-in_err-load
-returns-in_err-load g c =
+pub returns-in_err-load-in-Dumped : goal.returns-in_err-load-in-Dumped
+returns-in_err-load-in-Dumped g c =
     let o = g.O.Operator in
     let x = o.state c.args.self.now.child in
     let v = o.machine.width x in
@@ -22,26 +22,26 @@ returns-in_err-load g c =
     let t = o.state c.load.new.self in
     record {
       restored = λ few ok.
-          let h = loaded_err (o.machine.begin x) t (o.machine.restored x bs) c.in_err-load.field-0.0 (c.in_err-load.ensures few) in
-          let w = refused_as o.machine o.togo (o.machine.restored x) (kept_of v c.args.stored) bs c.in_err-load.field-0.0 _ (ap (λ (s : Stored). kept_record (kept_of v s)) c.in-Dumped.is) h.0 h.1 in
+          let h = loaded_err (o.machine.begin x) t (o.machine.restored x bs) c.in_err-load-in-Dumped.field-0.0 (c.in_err-load-in-Dumped.ensures few) in
+          let w = refused_as o.machine o.togo (o.machine.restored x) (kept_of v c.args.stored) bs c.in_err-load-in-Dumped.field-0.0 _ (ap (λ (s : Stored). kept_record (kept_of v s)) c.in-Dumped.is) h.0 h.1 in
           rw (p.1, p.2) w;
-      begins = λ few. begin_loaded o.machine (of o) g.met.O.Operator.laws x bs t _ few (c.in_err-load.ensures few);
+      begins = λ few. begin_loaded o.machine (of o) g.met.O.Operator.laws x bs t _ few (c.in_err-load-in-Dumped.ensures few);
     }
 
-pub returns-in_err-load-2 : goal.returns-in_err-load-2
-returns-in_err-load-2 g c =
+pub returns-in_err-load-in-Owed : goal.returns-in_err-load-in-Owed
+returns-in_err-load-in-Owed g c =
     let o = g.O.Operator in
     let x = o.state c.args.self.now.child in
     let v = o.machine.width x in
-    let p = err_from_is_err_and c.from_residual-in_err-load-2.result c.from_residual-in_err-load-2.ensures.1 in
+    let p = err_from_is_err_and c.from_residual-in_err-load-in-Owed.result c.from_residual-in_err-load-in-Owed.ensures.1 in
     let bs = c.in-Owed.contract.now in
     let t = o.state c.load-in-Owed.new.self in
     record {
       restored = λ few ok.
-          let h = loaded_err (o.machine.begin x) t (o.machine.restored x bs) c.in_err-load-2.field-0.0 (c.in_err-load-2.ensures few) in
-          let w = refused_as o.machine o.togo (o.machine.restored x) (kept_of v c.args.stored) bs c.in_err-load-2.field-0.0 _ (ap (λ (s : Stored). kept_record (kept_of v s)) c.in-Owed.is) h.0 h.1 in
+          let h = loaded_err (o.machine.begin x) t (o.machine.restored x bs) c.in_err-load-in-Owed.field-0.0 (c.in_err-load-in-Owed.ensures few) in
+          let w = refused_as o.machine o.togo (o.machine.restored x) (kept_of v c.args.stored) bs c.in_err-load-in-Owed.field-0.0 _ (ap (λ (s : Stored). kept_record (kept_of v s)) c.in-Owed.is) h.0 h.1 in
           rw (p.1, p.2) w;
-      begins = λ few. begin_loaded o.machine (of o) g.met.O.Operator.laws x bs t _ few (c.in_err-load-2.ensures few);
+      begins = λ few. begin_loaded o.machine (of o) g.met.O.Operator.laws x bs t _ few (c.in_err-load-in-Owed.ensures few);
     }
 
 pub fetch-requires : goal.fetch-requires
@@ -49,29 +49,29 @@ fetch-requires g c =
     let o = g.O.Operator in
     let x = o.state c.args.self.now.child in
     let few : o.machine.operators x ≤ 16 = omega (arith, c.operators.ensures) in
-    (good_loaded o.machine (of o) g.met.O.Operator.laws x c.in-Owed.contract.now _ few (loaded_ok _ _ _ _ (c.in_ok-load-2.ensures few)), omega (arith, c.min.ensures))
+    (good_loaded o.machine (of o) g.met.O.Operator.laws x c.in-Owed.contract.now _ few (loaded_ok _ _ _ _ (c.in_ok-load-in-Owed.ensures few)), omega (arith, c.min.ensures))
 
-pub returns-in_ok-load : goal.returns-in_ok-load
-returns-in_ok-load g c =
+pub returns-in_ok-load-in-Dumped : goal.returns-in_ok-load-in-Dumped
+returns-in_ok-load-in-Dumped g c =
     let o = g.O.Operator in
     let x = o.state c.args.self.now.child in
     let v = o.machine.width x in
     let le = (g.met.O.Operator.laws.sized x).1 in
-    let w : min 8 c.width_width.result ≡ v = omega (arith, c.width_width.ensures) in
+    let w : min 8 c.width-width.result ≡ v = omega (arith, c.width-width.ensures) in
     let bs = c.in-Dumped.outer.now in
     let n = c.in-Dumped.count in
     let rows = c.in-Dumped.rows.now in
     record {
       restored = λ few ok.
           let k = subst (Loadable v) c.in-Dumped.is ok in
-          let room : n * (4 * min 8 c.width_width.result) ≤ length rows = subst (λ (j : ℕ). n * (4 * j) ≤ length rows) (sym w) k.1 in
-          dumped_as o.machine o.togo (o.machine.restored x) (kept_of v c.args.stored) (rows_of v n rows) bs (o.state c.load.new.self) _ (ap (kept_of v) c.in-Dumped.is) (loaded_ok _ _ _ _ (c.in_ok-load.ensures few))
+          let room : n * (4 * min 8 c.width-width.result) ≤ length rows = subst (λ (j : ℕ). n * (4 * j) ≤ length rows) (sym w) k.1 in
+          dumped_as o.machine o.togo (o.machine.restored x) (kept_of v c.args.stored) (rows_of v n rows) bs (o.state c.load.new.self) _ (ap (kept_of v) c.in-Dumped.is) (loaded_ok _ _ _ _ (c.in_ok-load-in-Dumped.ensures few))
           (taken_same _ _ _ _ _ _ (c.read.ensures room k.0 ∙ ap (λ (j : ℕ). rows_of j n rows) w) refl refl);
-      begins = λ few. begin_loaded o.machine (of o) g.met.O.Operator.laws x bs _ _ few (c.in_ok-load.ensures few);
+      begins = λ few. begin_loaded o.machine (of o) g.met.O.Operator.laws x bs _ _ few (c.in_ok-load-in-Dumped.ensures few);
     }
 
-pub returns-in_ok-load-2 : goal.returns-in_ok-load-2
-returns-in_ok-load-2 g c =
+pub returns-in_ok-load-in-Owed : goal.returns-in_ok-load-in-Owed
+returns-in_ok-load-in-Owed g c =
     let o = g.O.Operator in
     let x = o.state c.args.self.now.child in
     let v = o.machine.width x in
@@ -82,8 +82,8 @@ returns-in_ok-load-2 g c =
           let k = subst (Loadable v) c.in-Owed.is ok in
           let n : c.min.result ≡ c.in-Owed.count = omega (arith, c.min.ensures, k.0) in
           let held = c.of-self.ensures ∙ signed_so bs k.1 in
-          owed_as o.machine o.togo (o.machine.restored x) (kept_of v c.args.stored) c.in-Owed.count bs t _ _ (ap (kept_of v) c.in-Owed.is) (loaded_ok _ _ _ _ (c.in_ok-load-2.ensures few))
+          owed_as o.machine o.togo (o.machine.restored x) (kept_of v c.args.stored) c.in-Owed.count bs t _ _ (ap (kept_of v) c.in-Owed.is) (loaded_ok _ _ _ _ (c.in_ok-load-in-Owed.ensures few))
           (subst (λ (z : Option (List ℕ)). Restores (fetch o.machine.next (o.togo t) c.in-Owed.count (taken [] z t)) c.fetch.result (taken_of o c.fetch.new.self)) held
           (subst (λ (j : ℕ). Restores (fetch o.machine.next (o.togo t) j (taken [] (contract_of c.of-self.result) t)) c.fetch.result (taken_of o c.fetch.new.self)) n c.fetch.ensures.fetched));
-      begins = λ few. c.fetch.ensures.begins ∙ begin_loaded o.machine (of o) g.met.O.Operator.laws x bs t _ few (c.in_ok-load-2.ensures few);
+      begins = λ few. c.fetch.ensures.begins ∙ begin_loaded o.machine (of o) g.met.O.Operator.laws x bs t _ few (c.in_ok-load-in-Owed.ensures few);
     }

@@ -17,7 +17,7 @@ use Rattle.keeper.proofs.Standing.{signs, takes, waits, drops}
 use Rattle.keeper.proofs.Laws.{same_in, good_outer, good_inner, size_some}
 use Rattle.block_join.specs.Stages.{Stage, empty, filling, scanning, matching, join_kind}
 use Rattle.block_join.specs.Joining.{pairing, filled, scanned_on, matched, next, join_sense, join_machine, join_meaning}
-use Rattle.block_join.proofs.Fronts.{proper}
+use Rattle.block_join.specs.Fronts.{proper}
 
 module _ {S T : Type 0} (o : Machine S) (d : Meaning S) (lo : Laws o d) (i : Machine T) (e : Meaning T) (li : Laws i e) where
   abbrev m : Machine (Keeping Stage S T)

@@ -14,8 +14,8 @@ use Rattle.keeper.specs.Keeping.{Keeping, keeping, Standing}
 use Rattle.keeper.proofs.Laws as keeper-laws
 use Rattle.block_join.specs.Stages.{Stage, empty, filling, scanning, matching, join_kind}
 use Rattle.block_join.specs.Joining.{pairing, next, join_sense, join_machine, join_meaning}
-use Rattle.block_join.proofs.Fronts.{proper}
-use Rattle.block_join.proofs.Moves.{moves}
+use Rattle.block_join.specs.Fronts.{proper}
+use Rattle.block_join.specs.Moves.{moves}
 
 module _ {S T : Type 0} (o : Machine S) (d : Meaning S) (lo : Laws o d) (i : Machine T) (e : Meaning T) (li : Laws i e) where
   whole_wide : (y : T) → i.operators y ≤ 16 → AllByRecursion (Wide (i.width y)) (e.whole y)
