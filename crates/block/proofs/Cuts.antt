@@ -1,11 +1,11 @@
 -- The cuts that the code makes are the record's. Assumes nothing.
-use Rattle.std.proofs.Common.{◌≡◌, ℕ, ◌+◌, ◌*◌, ◌<◌, ◌≤◌, Bool, true, false, cond, eqb, leb, List, [], ◌∷◌, ◌++◌, length, take, drop, Some, None, Option, sym, refl, ap, ◌∙◌, arith}
+use Rattle.std.proofs.Common.{◌≡◌, ℕ, ◌+◌, ◌*◌, ◌<◌, ◌≤◌, Bool, true, false, List, length, take, drop, Some, None, Option, sym, ap, ◌∙◌, arith}
 use Rattle.std.proofs.lemmas.List.{length-take-le}
 use Rattle.std.proofs.lemmas.Bool.{cond-true, cond-false, le-leb, lt-leb, eq-eqb, ne_eqb}
 use Rattle.codec.specs.Bytes.{of2}
 use Rattle.codec.specs.Rows.{rows_of}
 use Rattle.block.specs.declared.part.Part.{Part}
-use Rattle.block.specs.Kept.{Kept, dumped, owed, Cut, cut, Parted, dumped_at, owed_at, part_at, tailed, parted, parts_of, AllEnough}
+use Rattle.block.specs.Kept.{dumped, owed, cut, Parted, dumped_at, owed_at, part_at, tailed, parted, parts_of, AllEnough}
 use Rattle.block.proofs.Options.{when_so, when_not, then_so, then_none}
 
 cut_none : (bs : List ℕ) (n : ℕ) → n ≡ 2 + of2 bs → length bs < n → cut bs ≡ None

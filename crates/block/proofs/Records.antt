@@ -1,14 +1,14 @@
 -- The block's part of a record: what is written reads back, and what is read keeps the rules. Assumes nothing.
-use Rattle.std.proofs.Common.{◌≡◌, ℕ, ◌+◌, ◌*◌, ◌<◌, ◌≤◌, Bool, true, false, cond, eqb, leb, List, [], ◌∷◌, ◌++◌, length, take, drop, Some, None, Option, sym, refl, ap, ◌∙◌, append_assoc, append-nil, arith, length-append, length-drop, length-take}
+use Rattle.std.proofs.Common.{◌≡◌, ℕ, ◌+◌, ◌*◌, ◌≤◌, Bool, true, eqb, leb, List, ◌++◌, length, drop, Some, None, Option, sym, refl, ap, ◌∙◌, append_assoc, arith, length-append, length-drop, length-take}
 use Rattle.std.specs.List.{AllByRecursion}
 use Rattle.std.proofs.lemmas.List.{take_at, drop_at, get_or-take, get_or_append_left}
-use Rattle.std.proofs.lemmas.Bool.{leb-true, eqb-true, le-leb, eq-eqb}
+use Rattle.std.proofs.lemmas.Bool.{leb-true, eqb-true, le-leb}
 use Rattle.codec.specs.declared.row.Row.{Row}
 use Rattle.codec.specs.Bytes.{of2}
 use Rattle.codec.specs.Rows.{Wide, rows_of}
 use Rattle.codec.proofs.Rows.{rows_wide}
 use Rattle.block.specs.Places.{rows_bytes}
-use Rattle.block.specs.Kept.{Kept, dumped, owed, kept_form, kept_count, kept_record, kept_bytes, Of, Cut, cut, one, Parted, dumped_at, owed_at, part_at, tailed, parted}
+use Rattle.block.specs.Kept.{Kept, dumped, owed, kept_form, kept_count, kept_record, kept_bytes, Of, Cut, cut, Parted, part_at, tailed, parted}
 use Rattle.block.proofs.Options.{of_when, of_cond, of_then, when_so, then_so}
 use Rattle.block.proofs.Places.{length_rows, rows_back, length_rows_of, rows_short}
 

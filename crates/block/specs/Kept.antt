@@ -1,5 +1,5 @@
 -- The block's part of a keeper's record: the rows and the outer record, or the contract. Assumes nothing.
-use Rattle.std.specs.Prelude.{◌≡◌, ℕ, ◌+◌, ◌*◌, ◌≤◌, Bool, true, false, cond, List, [], ◌∷◌, ◌++◌, length, take, drop, Some, None, Option, ◌==◌, nat_le}
+use Rattle.std.specs.Prelude.{ℕ, ◌+◌, ◌*◌, ◌≤◌, Bool, true, false, cond, List, ◌++◌, length, take, drop, Some, None, Option, ◌==◌, nat_le}
 use Rattle.codec.specs.declared.row.Row.{Row}
 use Rattle.codec.specs.Bytes.{of2}
 use Rattle.codec.specs.Frames.{then}

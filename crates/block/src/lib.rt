@@ -1,4 +1,6 @@
 // What a keeper holds and how it is recorded: a block of rows, a contract, parts of records and of choice lists.
+#![tactic(auto)]
+
 mod choices;
 mod contract;
 mod part;

@@ -1,13 +1,13 @@
 -- The cuts that the code makes are the record's. Assumes nothing.
-use Rattle.std.proofs.Common.{◌≡◌, ℕ, ◌+◌, ◌*◌, ◌<◌, ◌≤◌, Bool, true, false, cond, eqb, ltb, leb, List, [], ◌∷◌, ◌++◌, length, get_or, drop, Some, None, Option, sym, refl, ap, ◌∙◌, subst, arith}
+use Rattle.std.proofs.Common.{◌≡◌, ℕ, ◌<◌, ◌≤◌, Bool, List, [], ◌∷◌, length, get_or, drop, Some, None, sym, refl, ap, ◌∙◌, arith}
 use Rattle.std.proofs.lemmas.Bool.{cond-true, cond-false, le-leb, lt-ltb, eq-eqb, ne_eqb}
 use Rattle.codec.specs.declared.row.Row.{Row}
-use Rattle.codec.specs.Frames.{body, then}
+use Rattle.codec.specs.Frames.{body}
 use Rattle.block.specs.Kept.{Parted, parted}
 use Rattle.block.proofs.Options.{when_so, when_not, then_so, then_none}
 use Rattle.pairing.specs.Terms.{Terms}
 use Rattle.keeper.specs.Taking.{untaken}
-use Rattle.keeper.specs.Keeping.{keeping, Lead, Fields, parsed}
+use Rattle.keeper.specs.Keeping.{keeping, Lead, parsed}
 use Rattle.block_join.specs.Stages.{Stage, empty, filling, scanning, matching, within_scan, led, index_at, held_at, counts_at, leads, join_kind}
 
 pub index_is : (form count : ℕ) (held : Row) (bs behind : List ℕ) (j : ℕ) → 1 ≤ length bs → j ≡ get_or bs 0 0 → get_or bs 0 0 ≤ count → behind ≡ drop 1 bs → index_at form count held bs ≡ led (matching held j) form count behind

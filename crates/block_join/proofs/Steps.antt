@@ -1,5 +1,5 @@
 -- What the code of a block join does in a step, and what it writes, is what its machine says. Assumes nothing.
-use Rattle.std.proofs.Common.{◌≡◌, ℕ, ◌+◌, ◌<◌, ◌≤◌, Bool, true, false, cond, leb, List, [], ◌∷◌, ◌++◌, length, Option, sym, refl, ap, ◌∙◌, subst, arith}
+use Rattle.std.proofs.Common.{◌≡◌, ℕ, ◌+◌, ◌<◌, ◌≤◌, Bool, cond, leb, List, length, Option, sym, refl, ap, ◌∙◌, subst, arith}
 use Rattle.codec.specs.declared.row.Row.{Row}
 use Rattle.operator.specs.declared.answer.Answer.{Answer}
 use Rattle.operator.specs.declared.answer.Answer.TheVariants as answer

@@ -1,9 +1,8 @@
 -- A block join's fields as its state. Assumes nothing.
-use Rattle.std.specs.Prelude.{◌≡◌, ℕ, ◌<◌, List, Some, None, Option}
+use Rattle.std.specs.Prelude.{◌≡◌, ℕ, ◌<◌, Some, None, Option}
 use Rattle.codec.specs.declared.row.Row.{Row}
 use Rattle.operator.specs.declared.answer.Answer.{Answer}
 use Rattle.operator.specs.declared.operator.Operator.{Ghosts}
-use Rattle.operator.specs.Machine.{Good}
 use Rattle.operator.specs.Calls.{Steps}
 use Rattle.pairing.specs.Terms.{terms_of}
 use Rattle.keeper.specs.Outer.{taken_of}

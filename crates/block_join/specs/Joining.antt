@@ -1,5 +1,5 @@
 -- The block join: its steps, and its meaning, blocks of outer rows joined with all inner rows. Assumes nothing.
-use Rattle.std.specs.Prelude.{◌≡◌, ℕ, ◌+◌, ◌<◌, ◌≤◌, cond, List, [], ◌∷◌, ◌++◌, length, drop, Some, None, Option, ◌==◌, nat_le}
+use Rattle.std.specs.Prelude.{◌≡◌, ℕ, ◌+◌, ◌<◌, ◌≤◌, cond, List, [], ◌++◌, length, drop, Some, None, Option, ◌==◌, nat_le}
 use Rattle.codec.specs.declared.row.Row.{Row}
 use Rattle.codec.specs.Rows.{Wide}
 use Rattle.operator.specs.Machine.{Machine, Move, row, busy, end}

@@ -1,5 +1,5 @@
 -- The machine of a block join keeps its meaning if its children's do. Assumes nothing.
-use Rattle.std.proofs.Common.{◌≡◌, ℕ, ◌+◌, ◌≤◌, min, List, [], ◌∷◌, ◌++◌, length, drop, sym, refl, ap, ◌∙◌, subst, arith}
+use Rattle.std.proofs.Common.{ℕ, ◌+◌, ◌≤◌, min, List, ◌++◌, drop, subst}
 use Rattle.std.specs.List.{AllByRecursion}
 use Rattle.std.proofs.ByRecursion.{All-append, All-drop}
 use Rattle.codec.specs.declared.row.Row.{Row}
@@ -13,7 +13,7 @@ use Rattle.keeper.specs.Taking.{Taken}
 use Rattle.keeper.specs.Keeping.{Keeping, keeping, Standing}
 use Rattle.keeper.proofs.Laws as keeper-laws
 use Rattle.block_join.specs.Stages.{Stage, empty, filling, scanning, matching, join_kind}
-use Rattle.block_join.specs.Joining.{pairing, next, join_sense, join_machine, join_meaning}
+use Rattle.block_join.specs.Joining.{next, join_sense, join_machine, join_meaning}
 use Rattle.block_join.specs.Fronts.{proper}
 use Rattle.block_join.specs.Moves.{moves}
 

@@ -1,5 +1,5 @@
 -- A step of a block join keeps its meaning. Assumes nothing.
-use Rattle.std.proofs.Common.{◌≡◌, ℕ, ◌+◌, ◌-◌, ◌<◌, ◌≤◌, min, max, Bool, true, false, cond, eqb, ltb, leb, List, [], ◌∷◌, ◌++◌, length, drop, Some, None, Option, sym, refl, ap, ◌∙◌, subst, append_assoc, append-nil, arith}
+use Rattle.std.proofs.Common.{◌≡◌, ℕ, ◌+◌, ◌<◌, Bool, true, false, cond, eqb, ltb, leb, List, [], ◌∷◌, ◌++◌, length, drop, Some, None, Option, sym, refl, ap, ◌∙◌, subst, append_assoc, append-nil, arith}
 use Rattle.std.specs.List.{AllByRecursion}
 use Rattle.std.proofs.lemmas.List.{length_push, length-drop, drop-drop, nil_from_length}
 use Rattle.std.proofs.lemmas.Bool.{leb-true, leb-false, eqb-true, eqb-false, lt-ltb, cond-true}
@@ -11,7 +11,7 @@ use Rattle.operator.proofs.Steps.{same_self}
 use Rattle.pairing.specs.Terms.{Terms, block_size}
 use Rattle.pairing.specs.Pairs.{Pairing, blocks, matches, scanned, joined, scan_steps, block_steps, all_steps, Hit, first}
 use Rattle.pairing.proofs.Pairs.{scanned_more, scanned_none, joined_more, joined_none, scan_steps_more, scan_steps_none, all_steps_more, all_steps_none, blocks_none, blocks_full, blocks_last, Found, found}
-use Rattle.keeper.specs.Taking.{Taken, taken, untaken, over, with_row, signing, Stands}
+use Rattle.keeper.specs.Taking.{Taken, untaken, over, with_row, signing}
 use Rattle.keeper.specs.Keeping.{Keeping, keeping, Standing}
 use Rattle.keeper.proofs.Standing.{signs, takes, waits, drops}
 use Rattle.keeper.proofs.Laws.{same_in, good_outer, good_inner, size_some}

@@ -1,10 +1,10 @@
 -- Where a block join stands in its phases, and how its record says so. Assumes nothing.
-use Rattle.std.specs.Prelude.{◌≡◌, ℕ, ◌+◌, ◌*◌, ◌<◌, ◌≤◌, min, Bool, true, false, cond, List, [], ◌∷◌, ◌++◌, length, drop, Some, None, Option, ◌==◌, nat_le, nat_lt}
+use Rattle.std.specs.Prelude.{ℕ, ◌+◌, ◌*◌, min, Bool, true, false, cond, List, [], ◌∷◌, ◌++◌, length, drop, Some, None, Option, ◌==◌, nat_le, nat_lt}
 use Rattle.codec.specs.declared.row.Row.{Row}
 use Rattle.codec.specs.Rows.{row_bytes, row_of}
 use Rattle.pairing.specs.Terms.{join_flaw}
 use Rattle.block.specs.Kept.{when}
-use Rattle.keeper.specs.Keeping.{Lead, Phases, Kind}
+use Rattle.keeper.specs.Keeping.{Lead, Kind}
 
 -- phase 0; phase 1; phase 2 without an inner row held; phase 2 with one, and the next index into the block
 pub data Stage : Type 0 where

@@ -1,4 +1,6 @@
 // The block join: each block of outer rows with every inner row, the pairs that match.
+#![tactic(auto)]
+
 mod front;
 mod join;
 mod parts;

@@ -1,19 +1,18 @@
 -- What the code of an operator over a block does is what its machine does. Assumes nothing.
-use Rattle.std.proofs.Common.{◌≡◌, ℕ, ◌+◌, ◌*◌, ◌<◌, ◌≤◌, min, Bool, true, false, List, [], ◌∷◌, ◌++◌, length, get_or, Some, None, Ok, Err, Option, Result, sym, refl, ap, ◌∙◌, subst, arith}
+use Rattle.std.proofs.Common.{◌≡◌, ℕ, ◌<◌, ◌≤◌, min, Bool, List, length, get_or, Some, None, Ok, Err, Option, Result, sym, refl, ap, ◌∙◌, subst, arith}
 use Rattle.refusal.specs.declared.Refusal.{Refusal}
 use Rattle.refusal.specs.Numbers.{number}
-use Rattle.codec.specs.declared.row.Row.{Row}
 use Rattle.codec.specs.Frames.{body, then}
 use Rattle.codec.proofs.Frames.{body_bound}
 use Rattle.operator.specs.Machine.{Machine, Move, Good}
 use Rattle.operator.specs.Calls.{Loaded}
 use Rattle.operator.specs.Laws.{Meaning, Laws}
 use Rattle.plan.proofs.Told.{plan_keepers}
-use Rattle.pairing.specs.Terms.{Terms, block_size}
+use Rattle.pairing.specs.Terms.{block_size}
 use Rattle.block.specs.declared.part.Stored.{Stored}
 use Rattle.block.specs.declared.part.Stored.TheVariants as stored
 use Rattle.block.specs.Choices.{choices_of_outer, choices_of_inner}
-use Rattle.block.specs.Kept.{Kept, kept_count, kept_record, kept_of, Enough, Of}
+use Rattle.block.specs.Kept.{kept_count, kept_record, kept_of, Enough, Of}
 use Rattle.block.proofs.Options.{then_so, then_none}
 use Rattle.block.proofs.Places.{length_rows_of}
 use Rattle.block.proofs.Records.{Sound}

@@ -1,5 +1,5 @@
 -- Rows fetched again: what it gives, and the loop that does it. Assumes nothing.
-use Rattle.std.proofs.Common.{◌≡◌, ℕ, zero, suc, ◌+◌, ◌-◌, ◌<◌, ◌≤◌, List, [], ◌∷◌, ◌++◌, length, Some, None, Ok, Err, Option, Result, sym, refl, ap, ◌∙◌, subst, append_assoc, arith}
+use Rattle.std.proofs.Common.{◌≡◌, ℕ, zero, suc, ◌+◌, ◌-◌, ◌<◌, ◌≤◌, List, [], ◌∷◌, ◌++◌, length, Some, None, Ok, Err, Option, sym, refl, ap, ◌∙◌, subst, append_assoc, arith}
 use Rattle.std.specs.List.{AllByRecursion}
 use Rattle.std.proofs.lemmas.List.{length_push}
 use Rattle.std.proofs.ByRecursion.{All-push}
@@ -12,7 +12,7 @@ use Rattle.operator.specs.Machine.{Machine, Move, Good, row, busy, end}
 use Rattle.operator.specs.Calls.{Moved}
 use Rattle.operator.specs.Laws.{Meaning, Laws, Same, Meant}
 use Rattle.operator.proofs.Steps.{carried, same_self, same_then}
-use Rattle.keeper.specs.Taking.{Taken, taken, over, with_row, fetch, fetch_by}
+use Rattle.keeper.specs.Taking.{Taken, over, with_row, fetch, fetch_by}
 use Rattle.keeper.specs.Outer.{Restores, Fetching}
 
 module _ {S : Type 0} (m : Machine S) (d : Meaning S) (l : Laws m d) where

@@ -1,28 +1,28 @@
 -- The laws of an operator over a block follow from its children's, its own steps and the width of its rows. Assumes nothing.
-use Rattle.std.proofs.Common.{◌≡◌, ℕ, ◌+◌, ◌-◌, ◌*◌, ◌<◌, ◌≤◌, min, max, Bool, true, false, eqb, List, [], ◌∷◌, ◌++◌, length, get_or, take, drop, replicate, Some, None, Option, sym, refl, ap, ◌∙◌, subst, one-add, arith, length-append}
+use Rattle.std.proofs.Common.{◌≡◌, ℕ, ◌+◌, ◌*◌, ◌<◌, ◌≤◌, Bool, true, false, List, ◌∷◌, ◌++◌, length, take, drop, replicate, Some, None, Option, sym, refl, ap, ◌∙◌, subst, one-add, arith, length-append}
 use Rattle.std.specs.List.{AllByRecursion}
 use Rattle.std.proofs.lemmas.List.{take-replicate, drop-replicate}
 use Rattle.std.proofs.lemmas.Bool.{eq-eqb}
 use Rattle.refusal.specs.Numbers.{Fault, either}
 use Rattle.codec.specs.declared.row.Row.{Row}
 use Rattle.codec.specs.Bytes.{of2}
-use Rattle.codec.specs.Frames.{framed, then}
+use Rattle.codec.specs.Frames.{then}
 use Rattle.codec.specs.Rows.{Wide}
 use Rattle.codec.proofs.Frames.{framed_length, framed_of2}
 use Rattle.operator.specs.Machine.{Machine, Move, Good}
-use Rattle.operator.specs.Laws.{Meaning, Laws, Same, ByPlan, Alike, Meant, Begun, Resumed, Read}
+use Rattle.operator.specs.Laws.{Meaning, Laws, Same, ByPlan, Alike, Meant, Begun, Read}
 use Rattle.pairing.specs.Terms.{Terms, terms_bytes, block_size}
 use Rattle.block.specs.Choices.{goes_back, choices_of_outer, choices_of_inner}
-use Rattle.block.specs.Kept.{Kept, dumped, owed, kept_form, kept_count, kept_record, kept_bytes, Of, one, tailed}
+use Rattle.block.specs.Kept.{Kept, dumped, owed, kept_form, kept_count, kept_record, Of, tailed}
 use Rattle.block.proofs.Options.{of_then, then_so}
-use Rattle.keeper.specs.Taking.{Taken, taken, untaken, back_record, kept_by, rebuilt, refetch_kept, Stands}
-use Rattle.keeper.specs.Keeping.{Keeping, keeping, Phases, Kind, Sense, Fields, only, inside, parsed, refetch_tail, refetch_in, refetch_of, refetch_by, inner_at, resumed, restored_by, outer_record, inner_record, fields, keeper_machine, keeper_meaning, rest_of, Standing}
+use Rattle.keeper.specs.Taking.{Taken, untaken, back_record, kept_by, rebuilt, refetch_kept}
+use Rattle.keeper.specs.Keeping.{Keeping, keeping, Kind, Sense, Fields, only, inside, parsed, refetch_tail, refetch_in, refetch_of, refetch_by, inner_at, resumed, restored_by, outer_record, inner_record, fields, keeper_machine, keeper_meaning, rest_of, Standing}
 use Rattle.keeper.specs.Proper.{Proper}
 use Rattle.keeper.proofs.Standing.{drops}
 use Rattle.keeper.proofs.Loads.{Came, came}
 use Rattle.keeper.proofs.Plans.{planned_over, cut_front, parts}
 use Rattle.keeper.proofs.Records.{Valid, parsed_ok, parsed_back}
-use Rattle.keeper.proofs.Restores.{kept_counts, kept_forms, kept_sound, kept_fits, Back, back, Again, kept_again, Built, built}
+use Rattle.keeper.proofs.Restores.{kept_counts, kept_forms, kept_sound, kept_fits, Back, back, kept_again, Built, built}
 
 -- the block size is 1 to 16
 pub size_some : (r : Terms) → 1 ≤ block_size r

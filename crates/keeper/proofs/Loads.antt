@@ -1,9 +1,8 @@
 -- A child loaded from a record, and a block restored by it. Assumes nothing.
-use Rattle.std.proofs.Common.{◌≡◌, ℕ, ◌≤◌, Bool, true, false, List, [], length, Some, None, Ok, Err, Option, Result, sym, refl, ap, ◌∙◌, subst, arith}
+use Rattle.std.proofs.Common.{◌≡◌, ℕ, ◌≤◌, Bool, true, false, List, [], length, Some, None, Ok, Err, Option, Result, sym, refl, ap, ◌∙◌, subst}
 use Rattle.refusal.specs.declared.Refusal.{Refusal}
 use Rattle.refusal.specs.Numbers.{number}
 use Rattle.codec.specs.declared.row.Row.{Row}
-use Rattle.codec.specs.Frames.{then}
 use Rattle.operator.specs.Machine.{Machine, Good}
 use Rattle.operator.specs.Calls.{Loaded}
 use Rattle.operator.specs.Laws.{Meaning, Laws, Same, Read}

@@ -1,5 +1,5 @@
 -- The plan of an operator over two children is one tree, and tells its parts. Assumes nothing.
-use Rattle.std.proofs.Common.{◌≡◌, ℕ, suc, ◌+◌, ◌<◌, ◌≤◌, List, [], ◌∷◌, ◌++◌, length, take, drop, sym, refl, ap, ◌∙◌, append_assoc, append-nil, arith}
+use Rattle.std.proofs.Common.{◌≡◌, ℕ, ◌+◌, ◌<◌, ◌≤◌, List, ◌∷◌, ◌++◌, length, take, drop, sym, refl, ap, ◌∙◌, append_assoc, append-nil, arith}
 use Rattle.std.proofs.lemmas.List.{take_at, drop_at}
 use Rattle.codec.specs.Bytes.{Word}
 use Rattle.plan.specs.Plans.{kinds, kind_parameters, kind_children, kind_keepers, Trees, none, tree, count, Proper, plan_bytes, operators, keepers, Planned}

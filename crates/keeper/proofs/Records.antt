@@ -1,14 +1,14 @@
 -- The record of an operator over a block: what is read keeps the rules. Assumes nothing.
-use Rattle.std.proofs.Common.{◌≡◌, ℕ, ◌+◌, ◌*◌, ◌<◌, ◌≤◌, Bool, true, false, List, [], ◌∷◌, ◌++◌, length, Some, None, Option, sym, refl, ap, ◌∙◌, arith}
+use Rattle.std.proofs.Common.{◌≡◌, ℕ, ◌+◌, ◌<◌, ◌≤◌, Bool, true, List, ◌++◌, length, Some, None, Option, sym, refl, ap, ◌∙◌, arith}
 use Rattle.codec.specs.declared.row.Row.{Row}
-use Rattle.codec.specs.Frames.{framed, body, then}
+use Rattle.codec.specs.Frames.{framed, body}
 use Rattle.codec.proofs.Frames.{body_framed, body_length}
 use Rattle.block.specs.Kept.{Kept, kept_form, kept_count, kept_record, kept_bytes, Of, tailed, parted}
 use Rattle.block.proofs.Options.{of_then, then_so}
 use Rattle.block.proofs.Records.{Sound, parted_ok, parted_back}
 use Rattle.keeper.specs.Taking.{form_by}
-use Rattle.keeper.specs.Keeping.{Lead, Phases, Kind, Sense, Fields, inside, parsed}
-use Rattle.keeper.specs.Proper.{OkLead, Proper}
+use Rattle.keeper.specs.Keeping.{Kind, Sense, Fields, inside, parsed}
+use Rattle.keeper.specs.Proper.{Proper}
 
 module _ {G : Type 0} (k : Kind G) (n : Sense G) (p : Proper k n) where
   -- the rules of the parts of a record of so many bytes

@@ -1,21 +1,20 @@
 -- A block recorded and restored: its part keeps the rules, reads back, and what is read stands. Assumes nothing.
-use Rattle.std.proofs.Common.{◌≡◌, ℕ, ◌+◌, ◌-◌, ◌*◌, ◌<◌, ◌≤◌, Bool, true, false, List, [], ◌∷◌, ◌++◌, length, take, drop, replicate, Some, None, Option, sym, refl, ap, ◌∙◌, subst, arith, length-append}
+use Rattle.std.proofs.Common.{◌≡◌, ℕ, ◌+◌, ◌≤◌, Bool, true, false, List, [], ◌++◌, length, take, drop, Some, None, Option, sym, refl, ap, ◌∙◌, subst, arith, length-append}
 use Rattle.std.specs.List.{AllByRecursion}
 use Rattle.std.proofs.lemmas.List.{take_at, drop_at}
 use Rattle.codec.specs.declared.row.Row.{Row}
 use Rattle.codec.specs.Bytes.{of2}
 use Rattle.codec.specs.Rows.{Wide}
-use Rattle.codec.specs.Frames.{then}
-use Rattle.operator.specs.Machine.{Machine, Good}
+use Rattle.operator.specs.Machine.{Machine}
 use Rattle.operator.specs.Laws.{Meaning, Laws, Same, Read}
 use Rattle.operator.proofs.Steps.{carried, same_then}
-use Rattle.block.specs.Kept.{Kept, dumped, owed, kept_form, kept_count, kept_record, kept_bytes, Of}
+use Rattle.block.specs.Kept.{Kept, dumped, owed, kept_form, kept_count, kept_bytes, Of}
 use Rattle.block.proofs.Options.{of_then, then_so}
 use Rattle.block.proofs.Places.{rows_short}
-use Rattle.block.proofs.Records.{Sound, kept_short}
-use Rattle.keeper.specs.Taking.{Taken, taken, back_record, way_back, kept_in, kept_by, form_in, form_by, fetch, rebuilt, refetch_kept, Holds, Signed, Stands}
-use Rattle.keeper.proofs.Fetches.{Got, Gets, gets}
-use Rattle.keeper.proofs.Loads.{Came, came, came_as, good_loaded}
+use Rattle.block.proofs.Records.{Sound}
+use Rattle.keeper.specs.Taking.{Taken, taken, back_record, way_back, kept_in, kept_by, form_in, form_by, fetch, rebuilt, refetch_kept, Holds, Stands}
+use Rattle.keeper.proofs.Fetches.{Gets, gets}
+use Rattle.keeper.proofs.Loads.{Came, came}
 
 -- what is held is held by whichever way it is recorded
 way_holds : (back : Bool) (f : List ℕ → Option (List Row)) (rows : List Row) (c : Option (List ℕ)) → Holds f rows c → Holds f rows (way_back back c)

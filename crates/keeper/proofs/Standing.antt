@@ -1,5 +1,5 @@
 -- Good standing of a block as it is signed for, filled and dropped. Assumes nothing.
-use Rattle.std.proofs.Common.{◌≡◌, ℕ, ◌+◌, ◌<◌, ◌≤◌, Bool, true, false, cond, leb, List, [], ◌∷◌, ◌++◌, length, replicate, Some, None, Option, sym, refl, ap, ◌∙◌, subst, append_assoc}
+use Rattle.std.proofs.Common.{◌≡◌, ℕ, ◌+◌, Bool, true, false, cond, leb, List, [], ◌∷◌, ◌++◌, length, replicate, Some, None, Option, sym, refl, ap, ◌∙◌, subst, append_assoc}
 use Rattle.std.specs.List.{AllByRecursion}
 use Rattle.std.proofs.ByRecursion.{All-push}
 use Rattle.std.proofs.lemmas.Bool.{leb-true}
@@ -8,7 +8,7 @@ use Rattle.codec.specs.Bytes.{of2}
 use Rattle.codec.specs.Rows.{Wide}
 use Rattle.operator.specs.Machine.{Machine, Good}
 use Rattle.operator.specs.Laws.{Meaning, Laws, Same}
-use Rattle.keeper.specs.Taking.{Taken, taken, untaken, over, with_row, back_record, signing, Signed, Holds, Stands}
+use Rattle.keeper.specs.Taking.{Taken, untaken, over, with_row, back_record, signing, Holds, Stands}
 
 -- what a contract reads as, said in other words
 pub holds_by : (f g : List ℕ → Option (List Row)) (xs ys : List Row) (c : Option (List ℕ)) → g ≡ f → ys ≡ xs → Holds f xs c → Holds g ys c

@@ -1,6 +1,6 @@
 -- What every operator over a block and an inner child shares: its state, its record, and what a record restores.
 -- Assumes nothing.
-use Rattle.std.specs.Prelude.{◌≡◌, ℕ, ◌+◌, ◌≤◌, Bool, true, false, List, [], ◌∷◌, ◌++◌, length, Some, None, Option}
+use Rattle.std.specs.Prelude.{◌≡◌, ℕ, ◌+◌, Bool, true, false, List, [], ◌∷◌, ◌++◌, Some, None, Option}
 use Rattle.refusal.specs.Numbers.{Fault, either}
 use Rattle.codec.specs.declared.row.Row.{Row}
 use Rattle.codec.specs.Frames.{framed, body, then}

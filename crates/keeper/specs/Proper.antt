@@ -1,10 +1,10 @@
 -- What a kind of operator over a block has to keep, so that the laws of its records follow. Assumes nothing.
-use Rattle.std.specs.Prelude.{◌≡◌, ℕ, ◌+◌, ◌<◌, ◌≤◌, Bool, true, false, List, [], ◌∷◌, ◌++◌, length, Some, None, Option}
+use Rattle.std.specs.Prelude.{◌≡◌, ℕ, ◌+◌, ◌<◌, ◌≤◌, Bool, false, List, [], ◌++◌, length, Some, None, Option}
 use Rattle.codec.specs.declared.row.Row.{Row}
 use Rattle.plan.specs.Plans.{kinds, kind_parameters, kind_children, kind_keepers}
 use Rattle.block.specs.Kept.{Of}
 use Rattle.keeper.specs.Taking.{form_by}
-use Rattle.keeper.specs.Keeping.{Lead, Phases, Kind, Sense}
+use Rattle.keeper.specs.Keeping.{Lead, Kind, Sense}
 
 -- the front of a record keeps the rules: it is shorter than the record, the count is at most the block size, and whatever
 -- block is restored behind it keeps the rules of the stage

@@ -1,4 +1,6 @@
 // What every operator over a block of outer rows shares: filling it, signing, going back, writing and reading it.
+#![tactic(auto)]
+
 mod outer;
 mod record;
 

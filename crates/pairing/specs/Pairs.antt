@@ -1,5 +1,5 @@
 -- The rows of a block join over lists of rows, and its steps. Assumes nothing.
-use Rattle.std.specs.Prelude.{◌≡◌, ℕ, zero, suc, ◌+◌, Bool, cond, List, [], ◌∷◌, ◌++◌, length, take, drop, Some, None, Option, nat_lt}
+use Rattle.std.specs.Prelude.{◌≡◌, ℕ, zero, suc, ◌+◌, cond, List, [], ◌∷◌, ◌++◌, length, take, drop, Some, None, Option, nat_lt}
 use Rattle.codec.specs.declared.row.Row.{Row}
 use Rattle.pairing.specs.Terms.{Terms, match}
 

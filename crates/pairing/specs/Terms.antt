@@ -1,5 +1,5 @@
 -- The parameters of a block join, what they match and what is wrong with them. Assumes nothing.
-use Rattle.std.specs.Prelude.{◌≡◌, ℕ, ◌+◌, min, max, Bool, cond, not, ◌&&◌, ◌||◌, List, [], ◌∷◌, ◌++◌, ℤ, pos, Some, None, Option, ◌==◌, int_lt, nat_le, nat_lt}
+use Rattle.std.specs.Prelude.{ℕ, ◌+◌, min, max, Bool, cond, not, ◌&&◌, ◌||◌, List, ◌∷◌, pos, Some, None, Option, ◌==◌, int_lt, nat_le, nat_lt}
 use Rattle.refusal.specs.Numbers.{Fault, fault_at}
 use Rattle.codec.specs.declared.row.Row.{Row}
 use Rattle.codec.specs.Bytes.{Word, word_bytes, word_cell, cell_word}

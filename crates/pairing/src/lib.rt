@@ -1,4 +1,6 @@
 // Which rows a block join pairs, and the rows it makes of them.
+#![tactic(auto)]
+
 mod condition;
 mod pair;
 mod rule;

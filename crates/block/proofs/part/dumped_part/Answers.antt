@@ -1,6 +1,6 @@
 use Rattle.std.proofs.Common.{refl, arith}
 use Rattle.std.proofs.lemmas.List.{take_rest}
-use Rattle.block.proofs.Cuts.{dumped_short, dumped_torn, dumped_is}
+use Rattle.block.proofs.Cuts.{dumped_torn, dumped_is}
 use Rattle.block.proofs.part.dumped_part.Goals as goal
 
 pub returns-then-cut-rest : goal.returns-then-cut-rest

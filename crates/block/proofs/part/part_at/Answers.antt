@@ -1,4 +1,4 @@
-use Rattle.std.proofs.Common.{◌≡◌, ◌∙◌, arith, rules}
+use Rattle.std.proofs.Common.{◌∙◌, rules}
 use Rattle.block.proofs.Cuts.{at_1, at_2, at_none}
 use Rattle.block.proofs.part.part_at.Goals as goal
 

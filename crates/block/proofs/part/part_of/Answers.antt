@@ -1,4 +1,4 @@
-use Rattle.std.proofs.Common.{◌≡◌, min, Some, None, sym, arith}
+use Rattle.std.proofs.Common.{min, Some, None, sym, arith}
 use Rattle.block.specs.Kept.{part_of}
 use Rattle.block.proofs.Cuts.{same_part, same_enough, no_part, the_part, wrong_tail}
 use Rattle.block.proofs.part.part_of.Goals as goal

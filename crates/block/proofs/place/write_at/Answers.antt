@@ -1,4 +1,4 @@
-use Rattle.std.proofs.Common.{◌^◌, ◌<◌, length, arith}
+use Rattle.std.proofs.Common.{arith}
 use Rattle.block.proofs.Places.{puts_ok, puts_err}
 use Rattle.block.proofs.place.write_at.Goals as goal
 

@@ -1,4 +1,4 @@
-use Rattle.std.proofs.Common.{◌^◌, ◌<◌, min, length, arith}
+use Rattle.std.proofs.Common.{min, arith}
 use Rattle.codec.specs.Rows.{row_bytes}
 use Rattle.block.proofs.Places.{puts_ok, puts_err}
 use Rattle.block.proofs.place.write_row_at.Goals as goal

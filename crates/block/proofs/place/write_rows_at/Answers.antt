@@ -1,4 +1,4 @@
-use Rattle.std.proofs.Common.{min, length, take, sym, ap, arith}
+use Rattle.std.proofs.Common.{min, ap, arith}
 use Rattle.std.proofs.lemmas.List.{take_all}
 use Rattle.block.specs.Places.{rows_bytes}
 use Rattle.block.proofs.Places.{puts_none, puts_as, rows_more}

@@ -1,4 +1,4 @@
-use Rattle.std.proofs.Common.{◌<◌, ◌≤◌, min, length, get_or, ◌∙◌, arith, rules}
+use Rattle.std.proofs.Common.{◌≤◌, min, length, ◌∙◌, arith, rules}
 use Rattle.std.proofs.lemmas.List.{take_rest}
 use Rattle.block_join.proofs.Cuts.{counted_1, counted_2}
 use Rattle.block_join.proofs.front.counted_at.Goals as goal

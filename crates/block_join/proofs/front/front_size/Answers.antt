@@ -1,9 +1,5 @@
-use Rattle.std.proofs.Common.{◌≡◌, min, length, sym, ap, ◌∙◌, arith, length-append, rules}
-use Rattle.codec.specs.Rows.{row_bytes}
+use Rattle.std.proofs.Common.{◌≡◌, min, length, arith, length-append, rules}
 use Rattle.codec.proofs.Rows.{row_bytes_length}
-use Rattle.block_join.specs.declared.phase.Phase.{Phase}
-use Rattle.block_join.specs.Stages.{lead}
-use Rattle.block_join.specs.Code.{stage_of}
 use Rattle.block_join.proofs.front.front_size.Goals as goal
 
 pub returns-in-Matching : goal.returns-in-Matching

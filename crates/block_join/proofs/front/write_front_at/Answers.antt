@@ -1,6 +1,5 @@
-use Rattle.std.proofs.Common.{◌≡◌, ℕ, ◌<◌, min, List, [], ◌∷◌, ◌++◌, sym, ap, ◌∙◌, subst, append_assoc, arith}
+use Rattle.std.proofs.Common.{ℕ, ◌<◌, min, List, [], ◌∷◌, ◌++◌, sym, ap, ◌∙◌, subst, append_assoc, arith}
 use Rattle.codec.specs.Rows.{row_bytes}
-use Rattle.block.specs.Places.{Puts}
 use Rattle.block.proofs.Places.{puts_more, puts_as}
 use Rattle.block_join.specs.declared.phase.Phase.{Phase}
 use Rattle.block_join.specs.Stages.{lead}

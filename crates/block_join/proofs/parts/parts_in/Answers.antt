@@ -1,8 +1,5 @@
 use Rattle.std.proofs.Common.{min}
-use Rattle.keeper.specs.Keeping.{Lead}
 use Rattle.block.specs.Kept.{part_of}
-use Rattle.block_join.specs.declared.front.Front.{Front}
-use Rattle.block_join.specs.Stages.{Stage}
 use Rattle.block_join.specs.Code.{front_as}
 use Rattle.block_join.proofs.Cuts.{no_body, no_front, no_block, all_parts}
 use Rattle.block_join.proofs.parts.parts_in.Goals as goal

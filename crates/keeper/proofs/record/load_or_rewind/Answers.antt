@@ -1,4 +1,4 @@
-use Rattle.std.proofs.Common.{true, false, Ok, ap, ◌∙◌}
+use Rattle.std.proofs.Common.{ap, ◌∙◌}
 use Rattle.operator.specs.Of.{of}
 use Rattle.keeper.proofs.Loads.{begin_loaded, loaded_there, loaded_none}
 use Rattle.keeper.proofs.record.load_or_rewind.Goals as goal

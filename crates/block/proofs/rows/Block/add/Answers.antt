@@ -1,4 +1,4 @@
-use Rattle.std.proofs.Common.{◌≡◌, ℕ, List, [], ◌∷◌, ◌++◌, length, take, ap, ◌∙◌, arith, length-take, rules}
+use Rattle.std.proofs.Common.{◌≡◌, ℕ, [], ◌∷◌, ◌++◌, length, take, ap, ◌∙◌, arith, length-take, rules}
 use Rattle.std.proofs.lemmas.List.{take_more_set}
 use Rattle.block.proofs.rows.Block.add.Goals as goal
 

@@ -1,5 +1,4 @@
-use Rattle.std.proofs.Common.{◌≡◌, List, sym, refl, ap, ◌∙◌, subst}
-use Rattle.codec.specs.declared.row.Row.{Row}
+use Rattle.std.proofs.Common.{sym, refl, ap, ◌∙◌, subst}
 use Rattle.operator.specs.Machine.{New}
 use Rattle.operator.specs.Of.{of}
 use Rattle.pairing.specs.Terms.{terms_of, block_size}

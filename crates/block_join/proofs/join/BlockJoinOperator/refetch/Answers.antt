@@ -1,6 +1,6 @@
-use Rattle.std.proofs.Common.{◌≡◌, ℕ, ◌+◌, ◌≤◌, Bool, List, sym, refl, ap, ◌∙◌, arith}
+use Rattle.std.proofs.Common.{◌≡◌, ℕ, Bool, List, ap, ◌∙◌, arith}
 use Rattle.operator.specs.Of.{of}
-use Rattle.block.specs.Choices.{goes_back, choices_of_outer, choices_of_inner}
+use Rattle.block.specs.Choices.{goes_back}
 use Rattle.keeper.specs.Taking.{refetch_kept}
 use Rattle.keeper.specs.Keeping.{only, refetch_tail, refetch_of, refetch_in, fields}
 use Rattle.keeper.specs.Outer.{kept_for}

@@ -1,4 +1,4 @@
-use Rattle.std.proofs.Common.{◌≡◌, ℕ, ◌+◌, ◌-◌, ◌%◌, ◌≤◌, min, List, [], ◌∷◌, ◌++◌, length, sym, refl, ap, ◌∙◌, arith}
+use Rattle.std.proofs.Common.{◌≡◌, ℕ, ◌%◌, min, List, ◌++◌, length, sym, ap, ◌∙◌, arith}
 use Rattle.codec.specs.Bytes.{be2}
 use Rattle.codec.specs.Frames.{framed}
 use Rattle.codec.proofs.Frames.{framed_length}
@@ -8,7 +8,7 @@ use Rattle.block.specs.Choices.{goes_back, choices_of_outer, choices_of_inner}
 use Rattle.block.specs.Kept.{kept_form, kept_count}
 use Rattle.block.proofs.Places.{puts_more, puts_as, wrote_all}
 use Rattle.keeper.specs.Taking.{form_by}
-use Rattle.keeper.specs.Keeping.{only, inside, fields}
+use Rattle.keeper.specs.Keeping.{only, fields}
 use Rattle.keeper.specs.Outer.{part_bytes}
 use Rattle.keeper.proofs.Codes.{chosen, same_part}
 use Rattle.keeper.proofs.Laws.{size_few}

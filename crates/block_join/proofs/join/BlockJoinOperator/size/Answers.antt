@@ -1,9 +1,9 @@
-use Rattle.std.proofs.Common.{◌≡◌, ℕ, ◌+◌, min, List, ◌++◌, length, sym, refl, ap, ◌∙◌, arith, length-append, Fits}
+use Rattle.std.proofs.Common.{◌≡◌, ℕ, min, List, ◌++◌, length, ap, ◌∙◌, arith, length-append}
 use Rattle.codec.proofs.Frames.{framed_length}
 use Rattle.operator.specs.Of.{of}
 use Rattle.block.specs.Choices.{goes_back, choices_of_outer, choices_of_inner}
 use Rattle.block.specs.Kept.{kept_form, kept_count}
-use Rattle.keeper.specs.Keeping.{only, inside, fields}
+use Rattle.keeper.specs.Keeping.{only, fields}
 use Rattle.keeper.specs.Outer.{part_bytes}
 use Rattle.keeper.proofs.Codes.{chosen, same_part}
 use Rattle.block_join.specs.Stages.{lead, within_scan, join_kind}

@@ -1,6 +1,6 @@
-use Rattle.std.proofs.Common.{◌≡◌, ◌<◌, ◌≤◌, length, Option, sym, refl, ap, ◌∙◌, arith}
+use Rattle.std.proofs.Common.{length, sym, refl, ap, arith}
 use Rattle.operator.specs.Of.{of}
-use Rattle.keeper.specs.Taking.{Taken, taken, fetch}
+use Rattle.keeper.specs.Taking.{fetch}
 use Rattle.keeper.specs.Outer.{taken_of}
 use Rattle.keeper.proofs.Blocks.{taken_same}
 use Rattle.keeper.proofs.Fetches.{starts, row_turn, busy_turn, end_turn, all_there}

@@ -1,4 +1,4 @@
-use Rattle.std.proofs.Common.{◌≡◌, ℕ, ◌*◌, length, sym, ap, ◌∙◌, arith}
+use Rattle.std.proofs.Common.{◌≡◌, ℕ, ◌*◌, length, ap, ◌∙◌, arith}
 use Rattle.operator.specs.Machine.{Good}
 use Rattle.block.proofs.Places.{rows_few}
 use Rattle.keeper.specs.Outer.{taken_of}

@@ -1,4 +1,4 @@
-use Rattle.std.proofs.Common.{◌≡◌, ℕ, List, replicate, Some, sym, refl, ap, ◌∙◌, arith}
+use Rattle.std.proofs.Common.{ℕ, List, replicate, Some, refl, ap, ◌∙◌, arith}
 use Rattle.std.proofs.lemmas.List.{take-replicate}
 use Rattle.plan.proofs.Told.{plan_keepers}
 use Rattle.block.specs.Held.{signed}

@@ -1,5 +1,4 @@
 use Rattle.std.proofs.Common.{◌≡◌, ℕ, min, List, ◌++◌, sym, ap, ◌∙◌, arith}
-use Rattle.codec.specs.declared.row.Row.{Row}
 use Rattle.block.specs.Places.{rows_bytes}
 use Rattle.block.proofs.Places.{puts_as, puts_more}
 use Rattle.keeper.specs.Outer.{taken_of}
