@@ -11,7 +11,7 @@ use Rattle.pairing.specs.Terms.{Terms, block_size}
 use Rattle.pairing.proofs.Widths.{matches_wide, scanned_wide, joined_wide}
 use Rattle.keeper.specs.Taking.{Taken}
 use Rattle.keeper.specs.Keeping.{Keeping, keeping, Standing}
-use Rattle.keeper.proofs.Laws as keeper-laws
+use Rattle.keeper.proofs.Laws as keeper_laws
 use Rattle.block_join.specs.Stages.{Stage, empty, filling, scanning, matching, join_kind}
 use Rattle.block_join.specs.Joining.{next, join_sense, join_machine, join_meaning}
 use Rattle.block_join.specs.Fronts.{proper}
@@ -40,9 +40,9 @@ module _ {S T : Type 0} (o : Machine S) (d : Meaning S) (lo : Laws o d) (i : Mac
 
   wide : (s : Keeping Stage S T) → Good (join_machine o d.togo i) (join_meaning o d i e).standing s → AllByRecursion (Wide ((join_machine o d.togo i).width s)) ((join_meaning o d i e).rest s)
   wide s g =
-      let go = keeper-laws.good_outer join_kind join_sense proper o d lo i e li (next o i) s g in
-      let gi = keeper-laws.good_inner join_kind join_sense proper o d lo i e li (next o i) s g in
+      let go = keeper_laws.good_outer join_kind join_sense proper o d lo i e li (next o i) s g in
+      let gi = keeper_laws.good_inner join_kind join_sense proper o d lo i e li (next o i) s g in
       wide_at s.terms s.outer s.inner s.stage g.stands (lo.wide s.outer.child go) (li.wide s.inner gi) (whole_wide s.inner gi.few)
 
   pub laws : Laws (join_machine o d.togo i) (join_meaning o d i e)
-  laws = keeper-laws.laws join_kind join_sense proper o d lo i e li (next o i) (moves o d lo i e li) wide
+  laws = keeper_laws.laws join_kind join_sense proper o d lo i e li (next o i) (moves o d lo i e li) wide

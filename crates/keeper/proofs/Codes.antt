@@ -53,25 +53,25 @@ module _ {G S T : Type 0} (k : Kind G) (n : Sense G) (p : Proper k n) (o : Machi
   m = keeper_machine k o d.togo i next
 
   module _ (s : Keeping G S T) (bytes : List ℕ) where
-    abbrev parts_are : Option (Fields G) → Type 0
-    parts_are f = parsed k.phases (block_size s.terms) (o.width s.outer.child) (i.width s.inner) bytes ≡ f
+    abbrev PartsAre : Option (Fields G) → Type 0
+    PartsAre f = parsed k.phases (block_size s.terms) (o.width s.outer.child) (i.width s.inner) bytes ≡ f
 
-    pub valid : (f : Fields G) → parts_are (Some f) → Valid k n p (block_size s.terms) (o.width s.outer.child) (i.width s.inner) (length bytes) f
+    pub valid : (f : Fields G) → PartsAre (Some f) → Valid k n p (block_size s.terms) (o.width s.outer.child) (i.width s.inner) (length bytes) f
     valid f h = subst (Of (Valid k n p (block_size s.terms) (o.width s.outer.child) (i.width s.inner) (length bytes))) h (parsed_ok k n p (block_size s.terms) (o.width s.outer.child) (i.width s.inner) bytes (lo.sized s.outer.child).1 (li.sized s.inner).1)
 
-    pub few_count : (f : Fields G) → parts_are (Some f) → kept_count f.kept ≤ 16
+    pub few_count : (f : Fields G) → PartsAre (Some f) → kept_count f.kept ≤ 16
     few_count f h = omega (arith, (valid f h).count, size_few s.terms)
 
-    restored_as : (f : Fields G) → parts_are (Some f) → m.restored s bytes ≡ resumed k.phases o d.togo s.terms (o.restored s.outer.child) (i.restored s.inner) (i.begin s.inner) f
+    restored_as : (f : Fields G) → PartsAre (Some f) → m.restored s bytes ≡ resumed k.phases o d.togo s.terms (o.restored s.outer.child) (i.restored s.inner) (i.begin s.inner) f
     restored_as f h = then_so _ _ f h
 
-    pub no_parts : (t : Keeping G S T) (r : Refusal) → parts_are None → number r ≡ 10 → Restores (m.restored s bytes) (Err r) t
+    pub no_parts : (t : Keeping G S T) (r : Refusal) → PartsAre None → number r ≡ 10 → Restores (m.restored s bytes) (Err r) t
     no_parts t r h q = none_restored (m.restored s bytes) r t (then_none _ _ h) q
 
-    pub no_block : (f : Fields G) (u : Taken S) (t : Keeping G S T) (r : Refusal) → parts_are (Some f) → Restores (rebuilt o d.togo (o.restored s.outer.child) f.kept) (Err r) u → Restores (m.restored s bytes) (Err r) t
+    pub no_block : (f : Fields G) (u : Taken S) (t : Keeping G S T) (r : Refusal) → PartsAre (Some f) → Restores (rebuilt o d.togo (o.restored s.outer.child) f.kept) (Err r) u → Restores (m.restored s bytes) (Err r) t
     no_block f u t r h q = let z = restores_none (rebuilt o d.togo (o.restored s.outer.child) f.kept) r u q in none_restored (m.restored s bytes) r t (restored_as f h ∙ then_none _ _ z.0) z.1
 
-    module _ (f : Fields G) (u : Taken S) (v : Unit {0}) (h : parts_are (Some f)) (q : Restores (rebuilt o d.togo (o.restored s.outer.child) f.kept) (Ok v) u) where
+    module _ (f : Fields G) (u : Taken S) (v : Unit {0}) (h : PartsAre (Some f)) (q : Restores (rebuilt o d.togo (o.restored s.outer.child) f.kept) (Ok v) u) where
       with_block : m.restored s bytes ≡ then (inner_at (k.phases.scans f.stage) (i.restored s.inner) (i.begin s.inner) f.tail) (λ y. Some (keeping s.terms f.stage u y))
       with_block = restored_as f h ∙ then_so _ _ u (restores_some (rebuilt o d.togo (o.restored s.outer.child) f.kept) v u q)
 
@@ -85,7 +85,7 @@ module _ {G S T : Type 0} (k : Kind G) (n : Sense G) (p : Proper k n) (o : Machi
 
   -- a record as the code takes it apart, at the numbers that the code has
   pub record Apart (s : Keeping G S T) (bytes : List ℕ) (g : G) (q : Stored) (tail : List ℕ) : Type 0 where
-    pub is : parts_are s bytes (Some (record { stage = g; kept = kept_of (o.width s.outer.child) q; tail = tail }))
+    pub is : PartsAre s bytes (Some (record { stage = g; kept = kept_of (o.width s.outer.child) q; tail = tail }))
     pub loadable : Loadable (o.width s.outer.child) q
     pub count : kept_count (kept_of (o.width s.outer.child) q) ≤ 16
     pub room : length (kept_record (kept_of (o.width s.outer.child) q)) ≤ length bytes
@@ -96,7 +96,7 @@ module _ {G S T : Type 0} (k : Kind G) (n : Sense G) (p : Proper k n) (o : Machi
       let vv : min 8 v ≡ o.width s.outer.child = omega (arith, (lo.sized s.outer.child).1) in
       let uu : min 8 u ≡ i.width s.inner = omega (arith, (li.sized s.inner).1) in
       let f : Fields G = record { stage = g; kept = kept_of (o.width s.outer.child) q; tail = tail } in
-      let is : parts_are s bytes (Some f) =
+      let is : PartsAre s bytes (Some f) =
       ap (λ (z : ℕ). parsed k.phases z (o.width s.outer.child) (i.width s.inner) bytes) (sym a) ∙ ap (λ (z : ℕ). parsed k.phases size z (i.width s.inner) bytes) (sym vv) ∙ ap (λ (z : ℕ). parsed k.phases size (min 8 v) z bytes) (sym uu)
       ∙ h ∙ ap (λ (z : ℕ). Some (record { stage = g; kept = kept_of z q; tail = tail })) vv in
       let ok = valid s bytes f is in
@@ -132,6 +132,6 @@ module _ {G S T : Type 0} (k : Kind G) (n : Sense G) (p : Proper k n) (o : Machi
   long_by bytes None F f p q e h = absurd (let z : ◌≡◌ {A = ℕ} 0 1 = cc in omega arith)
   long_by bytes (Some b) F f p q e h = body_bound bytes b p q e
 
-  pub record_bound : (s : Keeping G S T) (bytes : List ℕ) (f : Fields G) → get_or bytes 0 0 < 256 → get_or bytes 1 0 < 256 → parts_are s bytes (Some f) → length bytes ≤ 65537
+  pub record_bound : (s : Keeping G S T) (bytes : List ℕ) (f : Fields G) → get_or bytes 0 0 < 256 → get_or bytes 1 0 < 256 → PartsAre s bytes (Some f) → length bytes ≤ 65537
   unfolding parsed
   record_bound s bytes f p q h = long_by bytes (body bytes) _ f p q refl h
