@@ -1,51 +1,48 @@
 -- Bytes written one behind the other, and rows as bytes. Assumes nothing.
-use Rattle.std.proofs.Common.{◌≡◌, ℕ, zero, suc, ◌+◌, ◌-◌, ◌*◌, ◌^◌, ◌<◌, ◌≤◌, min, List, [], ◌∷◌, ◌++◌, length, get_or, take, drop, Ok, Err, Result, sym, refl, ap, ◌∙◌, append_assoc, append-nil, mul-le-mul_right, suc-mul, mul-le-mul, zero-mul, add-one, arith, length-append, length-drop, length-take}
+use Rattle.std.proofs.Common.{◌≡◌, ℕ, zero, suc, ◌+◌, ◌-◌, ◌*◌, ◌^◌, ◌<◌, ◌≤◌, min, List, [], ◌∷◌, ◌++◌, length, get_or, take, drop, Some, None, Ok, Err, sym, refl, ap, ◌∙◌, append_assoc, append-nil, suc-mul, mul-le-mul, zero-mul, arith, length-append, length-drop, length-take}
 use borrow.Rule.Slice.PartMut.{put_mid}
 use Rattle.std.specs.List.{AllByRecursion}
-use Rattle.std.proofs.lemmas.List.{drop-drop, drop_at, drop_all, take_rest, take_more}
+use Rattle.std.proofs.lemmas.List.{drop-drop, drop_at, drop_all, take_more}
+use Rattle.std.proofs.lemmas.Bool.{le-leb, cond-true}
 use Rattle.refusal.specs.declared.Refusal.{Refusal}
 use Rattle.codec.specs.declared.row.Row.{Row}
 use Rattle.codec.specs.Bytes.{overwrite}
-use Rattle.codec.specs.Rows.{Wide, row_bytes, row_of, rows_of}
+use Rattle.codec.specs.Rows.{Wide, row_bytes, row_of, front_row, rows_of}
 use Rattle.codec.specs.Written.{Wrote}
 use Rattle.codec.proofs.Laws.{length_overwrite, overwrite_more, overwrite_none, length_cells_bytes}
 use Rattle.codec.proofs.Rows.{row_back, row_bytes_length}
-use Rattle.block.specs.Places.{Puts, rows_bytes}
+use Rattle.block.specs.declared.writer.Writer.{Writer}
+use Rattle.block.specs.Places.{Puts, Put, rows_bytes}
 
 -- what a call wrote to the front of the part from a place on
-pub wrote_at : (at : ℕ) (bs xs ys : List ℕ) (r : Result ℕ Refusal) → at + length bs ≤ length xs → Wrote bs (take (length xs - at) (drop at xs)) ys r → put_mid at (length xs - at) xs ys ≡ overwrite at bs xs
-wrote_at at bs xs ys (Ok n) k (a, b, c) =
-    let t : take (length xs - at) (drop at xs) ≡ drop at xs = take_rest xs at in
-    let w : ys ≡ bs ++ drop (at + length bs) xs = c ∙ ap (λ l. bs ++ drop (length bs) l) t ∙ ap (λ l. bs ++ l) (drop-drop (length bs) at xs) in
-    let post : drop (length xs - at) (drop at xs) ≡ [] = drop_all (length xs - at) (drop at xs) (simp length-drop (omega arith)) in
-    ap (λ l. take at xs ++ (l ++ drop (length xs - at) (drop at xs))) w
-    ∙ ap (λ l. take at xs ++ ((bs ++ drop (at + length bs) xs) ++ l)) post
-    ∙ ap (λ l. take at xs ++ l) (append-nil (bs ++ drop (at + length bs) xs))
-wrote_at at bs xs ys (Err e) k (a, b, c) = let t : length (take (length xs - at) (drop at xs)) ≡ length xs - at = ap length (take_rest xs at) ∙ length-drop at xs in absurd (omega arith)
+pub put_mid_is : (at : ℕ) (xs ys : List ℕ) → put_mid at (length xs - at) xs ys ≡ take at xs ++ ys
+put_mid_is at xs ys =
+    let e : drop (length xs - at) (drop at xs) ≡ [] = drop_all (length xs - at) (drop at xs) (simp length-drop (omega arith)) in
+    ap (λ l. take at xs ++ (ys ++ l)) e ∙ ap (λ l. take at xs ++ l) (append-nil ys)
 
-pub puts_ok : (at : ℕ) (bs xs ys : List ℕ) (n behind : ℕ) → length xs < 2 ^ 64 → behind ≡ min (at + n) 18446744073709551615 → Wrote bs (take (length xs - at) (drop at xs)) ys (Ok n) → Puts at bs xs (put_mid at (length xs - at) xs ys) behind
-puts_ok at bs xs ys n behind f e w = λ k. let w0 = w.0 in (omega arith, wrote_at at bs xs ys (Ok n) k w)
+pub puts_ok : (at : ℕ) (bs xs ys : List ℕ) (n behind : ℕ) → length xs < 2 ^ 64 → behind ≡ min (at + n) 18446744073709551615 → Wrote bs (drop at xs) ys (Ok n) → Puts at bs xs (put_mid at (length xs - at) xs ys) behind
+puts_ok at bs xs ys n behind f e (a, b, c) = λ k. (omega arith, put_mid_is at xs ys ∙ ap (λ l. take at xs ++ l) (c ∙ ap (λ l. bs ++ l) (drop-drop (length bs) at xs)))
 
-pub puts_err : (at : ℕ) (bs xs ys : List ℕ) (e : Refusal) (behind : ℕ) → Wrote bs (take (length xs - at) (drop at xs)) ys (Err e) → Puts at bs xs (put_mid at (length xs - at) xs ys) behind
-puts_err at bs xs ys e behind (a, b, c) = λ k. let t : length (take (length xs - at) (drop at xs)) ≡ length xs - at = ap length (take_rest xs at) ∙ length-drop at xs in absurd (omega arith)
+pub puts_err : (at : ℕ) (bs xs ys new : List ℕ) (e : Refusal) (behind : ℕ) → Wrote bs (drop at xs) ys (Err e) → Puts at bs xs new behind
+puts_err at bs xs ys new e behind (a, b, c) = λ k. absurd (omega (arith, length-drop at xs))
 
--- nothing, and then one part behind another
-pub puts_none : (at : ℕ) (xs : List ℕ) → Puts at [] xs xs at
-puts_none at xs = λ k. (omega arith, sym (overwrite_none at xs))
+-- nothing, one part behind another, and the same bytes under another name
+pub put_none : (w : Writer) → Put [] w w
+put_none w = λ k. (omega arith, sym (overwrite_none w.place w.buffer.now))
 
-pub puts_more : (at n r : ℕ) (bs cs old mid new : List ℕ) → Puts at bs old mid n → Puts n cs mid new r → Puts at (bs ++ cs) old new r
-puts_more at n r bs cs old mid new f g = λ h.
+pub put_more : (bs cs : List ℕ) (w m r : Writer) → Put bs w m → Put cs m r → Put (bs ++ cs) w r
+put_more bs cs w m r f g = λ h.
+    let old = w.buffer.now in
     let s = length-append bs cs in
     let p = f (omega arith) in
     let p0 = p.0 in
-    let l : length mid ≡ length old = ap length p.1 ∙ length_overwrite at bs old (omega arith) in
+    let l : length m.buffer.now ≡ length old = ap length p.1 ∙ length_overwrite w.place bs old (omega arith) in
     let q = g (omega arith) in
     let q0 = q.0 in
-    (omega arith, q.1 ∙ ap (overwrite n cs) p.1 ∙ overwrite_more at bs cs old n (omega arith) p0)
+    (omega arith, q.1 ∙ ap (overwrite m.place cs) p.1 ∙ overwrite_more w.place bs cs old m.place (omega arith) p0)
 
--- the same bytes under another name
-pub puts_as : (at r : ℕ) (bs cs old new : List ℕ) → bs ≡ cs → Puts at bs old new r → Puts at cs old new r
-puts_as at r bs cs old new e f = rw (sym e) f
+pub put_as : (bs cs : List ℕ) (w r : Writer) → bs ≡ cs → Put bs w r → Put cs w r
+put_as bs cs w r e f = rw (sym e) f
 
 -- rows as bytes
 pub rows_push : (w : ℕ) (rs : List Row) (r : Row) → rows_bytes w (rs ++ (r ∷ [])) ≡ rows_bytes w rs ++ row_bytes w r
@@ -80,31 +77,30 @@ pub length_rows_of : (w n : ℕ) (bs : List ℕ) → length (rows_of w n bs) ≡
 length_rows_of w zero bs = refl
 length_rows_of w (suc n) bs = ap suc (length_rows_of w n (drop (4 * w) bs))
 
-pub rows_of_more : (w n : ℕ) (bs : List ℕ) → rows_of w (n + 1) bs ≡ rows_of w n bs ++ (row_of w (drop (n * (4 * w)) bs) ∷ [])
-rows_of_more w zero bs = ap (λ (k : ℕ). row_of w (drop k bs) ∷ []) (sym (zero-mul (4 * w)))
-rows_of_more w (suc n) bs =
-    let e : 4 * w + n * (4 * w) ≡ suc n * (4 * w) = omega (arith, suc-mul n (4 * w)) in
-    simp add-one (ap (λ l. row_of w bs ∷ l) (simp add-one at (rows_of_more w n (drop (4 * w) bs)) ∙ ap (λ b. rows_of w n (drop (4 * w) bs) ++ (row_of w b ∷ [])) (drop-drop (n * (4 * w)) (4 * w) bs ∙ ap (λ m. drop m bs) e)))
+-- one row more read, of those that are left
+pub read_more : (w k n count : ℕ) (rows new all : List Row) (row : Row) (left rest : List ℕ) → length rows < count → k ≡ w → front_row w left ≡ Some row → new ≡ rows ++ row ∷ [] → rest ≡ drop (4 * k) left → length rows + n ≡ count → n * (4 * w) ≤ length left → all ≡ rows ++ rows_of w n left
+    → (m : ℕ) × (length new + m ≡ count) × (m * (4 * w) ≤ length rest) × (all ≡ new ++ rows_of w m rest)
+read_more w k zero count rows new all row left rest lt e f g h a b i = absurd (omega arith)
+read_more w k (suc n) count rows new all row left rest lt e f g h a b i =
+    let s = suc-mul n (4 * w) in
+    let l : 4 * w ≤ length left = omega arith in
+    let r : row_of w left ≡ row = let t = sym (cond-true _ (Some (row_of w left)) None (le-leb _ _ l)) ∙ f in cc in
+    let d : rest ≡ drop (4 * w) left = h ∙ ap (λ (j : ℕ). drop (4 * j) left) e in
+    let c : length new ≡ length rows + 1 = simp length-append at (ap length g) in
+    (n, omega arith, omega (arith, ap length d, length-drop (4 * w) left), i ∙ ap (λ (x : Row). rows ++ (x ∷ rows_of w n (drop (4 * w) left))) r ∙ sym (append_assoc rows (row ∷ []) (rows_of w n (drop (4 * w) left))) ∙ ap (λ (l : List Row). l ++ rows_of w n (drop (4 * w) left)) (sym g) ∙ ap (λ (l : List ℕ). new ++ rows_of w n l) (sym d))
 
 -- at most 16 rows of at most eight cells
 pub rows_few : (a b : ℕ) → a ≤ 16 → b ≤ 8 → a * (4 * b) ≤ 512
 rows_few a b h k = let l : 4 * b ≤ 32 = omega arith in mul-le-mul h l
 
--- row i of n rows ends within them
-pub next_place : (i n w : ℕ) → i < n → i * (4 * w) + 4 * w ≤ n * (4 * w)
-next_place i n w h =
-    let e : (i + 1) * (4 * w) ≡ i * (4 * w) + 4 * w = ap (λ (k : ℕ). k * (4 * w)) (add-one i) ∙ suc-mul i (4 * w) in
-    let l : i + 1 ≤ n = omega arith in
-    let m : (i + 1) * (4 * w) ≤ n * (4 * w) = mul-le-mul_right (4 * w) l in
-    omega arith
-
 -- one row more written
-pub rows_more : (w at i n r : ℕ) (rs : List Row) (d : Row) (old mid new : List ℕ) → i < length rs → Puts at (rows_bytes w (take i rs)) old mid n → Puts n (row_bytes w (get_or rs i d)) mid new r → Puts at (rows_bytes w (take (i + 1) rs)) old new r
-rows_more w at i n r rs d old mid new lt f g =
-    puts_as at r _ _ old new (sym (rows_push w (take i rs) (get_or rs i d)) ∙ ap (rows_bytes w) (sym (take_more rs i d lt))) (puts_more at n r _ _ old mid new f g)
+pub rows_more : (v i : ℕ) (rs : List Row) (d : Row) (w m r : Writer) → i < length rs → Put (rows_bytes v (take i rs)) w m → Put (row_bytes v (get_or rs i d)) m r → Put (rows_bytes v (take (i + 1) rs)) w r
+rows_more v i rs d w m r lt f g =
+    put_as _ _ w r (sym (rows_push v (take i rs) (get_or rs i d)) ∙ ap (rows_bytes v) (sym (take_more rs i d lt))) (put_more _ _ w m r f g)
 
--- a whole record written from the front on
-pub wrote_all : (bytes old new : List ℕ) (r size : ℕ) → Puts 0 bytes old new r → size ≡ length bytes → size ≤ length old → Wrote bytes old new (Ok size)
-wrote_all bytes old new r size f e h =
+-- a whole record written from the front of a buffer on
+pub wrote_all : (bytes old new : List ℕ) (w r : Writer) (size : ℕ) → w.buffer.now ≡ old → w.place ≡ 0 → new ≡ r.buffer.now → Put bytes w r → size ≡ length bytes → size ≤ length old → Wrote bytes old new (Ok size)
+wrote_all bytes old new w r size a b c f e h =
+    let l : length w.buffer.now ≡ length old = ap length a in
     let z : 0 + length bytes ≡ length bytes = omega arith in
-    (e, omega arith, (f (omega arith)).1 ∙ ap (λ (n : ℕ). bytes ++ drop n old) z)
+    (e, omega arith, c ∙ (f (omega arith)).1 ∙ ap (λ (n : ℕ). overwrite n bytes w.buffer.now) b ∙ ap (overwrite 0 bytes) a ∙ ap (λ (n : ℕ). bytes ++ drop n old) z)

@@ -1,9 +1,13 @@
 -- The block's part of a keeper's record: the rows and the outer record, or the contract. Assumes nothing.
-use Rattle.std.specs.Prelude.{ℕ, ◌+◌, ◌*◌, ◌≤◌, Bool, true, false, cond, List, ◌++◌, length, take, drop, Some, None, Option, ◌==◌, nat_le}
+use Rattle.std.specs.Prelude.{◌≡◌, ◌≢◌, ℕ, ◌+◌, ◌*◌, ◌≤◌, Bool, true, false, cond, List, ◌++◌, length, take, drop, Some, None, Option, Result, MatchResult, ◌==◌, nat_le}
+use Rattle.std.specs.Borrow.{Bor}
 use Rattle.codec.specs.declared.row.Row.{Row}
 use Rattle.codec.specs.Bytes.{of2}
 use Rattle.codec.specs.Frames.{then}
 use Rattle.codec.specs.Rows.{rows_of}
+use Rattle.block.specs.declared.part.Form.{Form}
+use Rattle.block.specs.declared.part.Form.TheVariants as form
+use Rattle.block.specs.declared.part.UnknownForm.{UnknownForm}
 use Rattle.block.specs.declared.part.Stored.{Stored}
 use Rattle.block.specs.declared.part.Stored.TheVariants as stored
 use Rattle.block.specs.declared.part.Part.{Part}
@@ -17,6 +21,15 @@ pub data Kept : Type 0 where
 abbrev pub kept_form : Kept → ℕ
 kept_form (dumped rows outer) = 1
 kept_form (owed count contract) = 2
+
+-- the number of a form in a record
+abbrev pub form_number : Form → ℕ
+form_number form.Dumped = 1
+form_number form.Owed = 2
+
+-- the form with this number, or an error with a number that no form has
+abbrev pub FormOf : ℕ → Result Form UnknownForm → Type 0
+FormOf number r = MatchResult r (λ form. form_number form ≡ number) (λ e. (e.0 ≡ number) × ((form : Form) → form_number form ≢ number))
 
 abbrev pub kept_count : Kept → ℕ
 kept_count (dumped rows outer) = length rows
@@ -48,6 +61,11 @@ pub record Cut : Type 0 where
 
 unfoldable pub cut : List ℕ → Option Cut
 cut bytes = when (nat_le (2 + of2 bytes) (length bytes)) (Some (record { piece = take (2 + of2 bytes) bytes; behind = drop (2 + of2 bytes) bytes }))
+
+-- a record and what stands behind it, as the code has them
+abbrev pub cut_of : Option (Bor (List ℕ) × Bor (List ℕ)) → Option Cut
+cut_of None = None
+cut_of (Some p) = Some (record { piece = p.0.now; behind = p.1.now })
 
 -- whether bytes are one record and nothing more
 abbrev pub one : List ℕ → Bool

@@ -4,30 +4,31 @@ ghost use Rattle.block.specs.Choices.{goes_back, choices_of_outer, choices_of_in
 
 use codec::bytes_from;
 
-const GO_BACK: u8 = 2;
+// The choice to go back, a byte of a list that is the caller's: any other byte is to dump, so an enum would say no more.
+pub const GO_BACK: u8 = 2;
 
-// Whether the keeper is to go back; a missing choice is to dump.
-pub fn goes_back(choices: &[u8]) -> bool
-    ensures { result ≡ goes_back choices.now }
-{
-    if choices.len() > 0 {
-        choices[0] == GO_BACK
-    } else {
-        false
+// A choice list taken apart: whether the keeper is to go back, a missing choice being to dump, and the choices of the
+// keepers below its outer and below its inner child.
+#[derive(Clone, Copy)]
+pub struct Choices<'a> {
+    pub back: bool,
+    pub outer: &'a [u8],
+    pub inner: &'a [u8],
+}
+
+impl<'a> Choices<'a> {
+    // The choices of a keeper above an outer child with so many keepers.
+    pub fn split(choices: &'a [u8], keepers: usize) -> Choices<'a>
+        ensures back { result.back ≡ goes_back choices.now }
+        ensures outer { result.outer.now ≡ choices_of_outer keepers choices.now }
+        ensures inner { result.inner.now ≡ choices_of_inner keepers choices.now }
+    {
+        let below = bytes_from(choices, 1);
+        let (outer, inner) = below.split_at(keepers.min(below.len()));
+        Choices {
+            back: choices.first() == Some(&GO_BACK),
+            outer,
+            inner,
+        }
     }
-}
-
-// The choices of the keepers below an outer child with so many.
-pub fn outer_choices(choices: &[u8], keepers: usize) -> &[u8]
-    ensures { result.now ≡ choices_of_outer keepers choices.now }
-{
-    let below = bytes_from(choices, 1);
-    &below[..keepers.min(below.len())]
-}
-
-// The choices of the keepers below the inner child.
-pub fn inner_choices(choices: &[u8], keepers: usize) -> &[u8]
-    ensures { result.now ≡ choices_of_inner keepers choices.now }
-{
-    bytes_from(bytes_from(choices, 1), keepers)
 }

@@ -1,42 +1,51 @@
 // A contract: the record of an outer child by which it can be put back to where a block began.
-ghost use Rattle.std.specs.Prelude.{◌≡◌, take};
-ghost use Rattle.block.specs.Held.{contract_bytes, contract_of, signed};
+ghost use Rattle.std.specs.Prelude.{◌≡◌, ◌≤◌, take, length};
+ghost use Rattle.block.specs.Held.{signed};
 
-use codec::write_front;
+use arrayvec::ArrayVec;
+use std::marker::Model;
 
 // A contract has at most so many bytes, its two length bytes included.
 pub const CONTRACT_BYTES: usize = 512;
 
-#[derive(Clone, Copy)]
+// Contracts of code see the list of its bytes.
+#[derive(Drop)]
 pub struct Contract {
-    bytes: [u8; CONTRACT_BYTES],
-    used: usize,
+    bytes: ArrayVec<u8, CONTRACT_BYTES>,
+}
+
+impl Model for Contract {
+    ghost use Rattle.std.specs.Prelude.{ℕ, List};
+
+    ghost Value = { List ℕ };
+
+    ghost view = { λ k. k.bytes.items };
 }
 
 impl Contract {
     // The first bytes, so many.
     pub fn new(bytes: [u8; CONTRACT_BYTES], used: usize) -> Contract
-        ensures { contract_bytes result ≡ take used bytes }
+        ensures { result ≡ take used bytes }
     {
-        Contract { bytes, used }
+        let mut bytes = ArrayVec::from(bytes);
+        bytes.truncate(used);
+        Contract { bytes }
     }
 
     // A contract of these bytes, if they are not too many.
     pub fn of(bytes: &[u8]) -> Option<Contract>
-        ensures { contract_of result ≡ signed bytes.now }
+        ensures { result ≡ signed bytes.now }
     {
-        let mut held = [0; CONTRACT_BYTES];
-        match write_front(&mut held, bytes) {
-            Ok(used) => Some(Contract { bytes: held, used }),
-            Err(_) => None,
-        }
+        ArrayVec::try_from(bytes)
+            .ok()
+            .map(|bytes| Contract { bytes })
     }
 
     // Its bytes.
     pub fn bytes(&self) -> &[u8]
-        ensures { result.now ≡ contract_bytes self.now }
+        ensures is { result.now ≡ self.now }
+        ensures few { length result.now ≤ 512 }
     {
-        let bytes: &[u8] = &self.bytes;
-        &bytes[..self.used.min(bytes.len())]
+        self.bytes.as_slice()
     }
 }

@@ -4,11 +4,11 @@
 mod choices;
 mod contract;
 mod part;
-mod place;
 mod rows;
+mod writer;
 
-pub use choices::{goes_back, inner_choices, outer_choices};
+pub use choices::{Choices, GO_BACK};
 pub use contract::{CONTRACT_BYTES, Contract};
-pub use part::{Part, Stored, part_of};
-pub use place::{write_at, write_row_at, write_rows_at};
+pub use part::{Form, Head, Part, Stored, UnknownForm, part_of};
 pub use rows::{BLOCK_ROWS, Block};
+pub use writer::Writer;

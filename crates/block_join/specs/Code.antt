@@ -1,6 +1,5 @@
 -- A block join's fields as its state. Assumes nothing.
 use Rattle.std.specs.Prelude.{◌≡◌, ℕ, ◌<◌, Some, None, Option}
-use Rattle.codec.specs.declared.row.Row.{Row}
 use Rattle.operator.specs.declared.answer.Answer.{Answer}
 use Rattle.operator.specs.declared.operator.Operator.{Ghosts}
 use Rattle.operator.specs.Calls.{Steps}
@@ -25,19 +24,19 @@ abbrev pub joining : {O I : Type 0} → (o : Ghosts O) → (i : Ghosts I) → Bl
 joining o i s = keeping (terms_of s.rule) (stage_of s.phase) (taken_of o s.outer) (i.state s.inner)
 
 -- a step of a child
-abbrev pub Stepped : {O : Type 0} → Ghosts O → Answer → O → Row → O → Row → Type 0
-Stepped g r s before t after = Steps g.machine g.standing (g.state s) before r (g.state t) after
+abbrev pub Stepped : {O : Type 0} → Ghosts O → Answer → O → O → Type 0
+Stepped g r s t = Steps g.machine g.standing (g.state s) r (g.state t)
 
 -- the child that the phase asks is stepped, and the other stays
-abbrev pub Asked : {O I : Type 0} → Ghosts O → Ghosts I → Phase → Answer → O → I → Row → O → I → Row → Type 0
-Asked o i phase.Empty r x y before x' y' after = (x' ≡ x) × (y' ≡ y)
-Asked o i phase.Filling r x y before x' y' after = Stepped o r x before x' after × (y' ≡ y)
-Asked o i phase.Scanning r x y before x' y' after = (x' ≡ x) × Stepped i r y before y' after
-Asked o i (phase.Matching held index) r x y before x' y' after = (x' ≡ x) × (y' ≡ y)
+abbrev pub Asked : {O I : Type 0} → Ghosts O → Ghosts I → Phase → Answer → O → I → O → I → Type 0
+Asked o i phase.Empty r x y x' y' = (x' ≡ x) × (y' ≡ y)
+Asked o i phase.Filling r x y x' y' = Stepped o r x x' × (y' ≡ y)
+Asked o i phase.Scanning r x y x' y' = (x' ≡ x) × Stepped i r y y'
+Asked o i (phase.Matching held index) r x y x' y' = (x' ≡ x) × (y' ≡ y)
 
 -- the front of a record as the code has it
 abbrev pub front_as : Front → Lead Stage
-front_as l = record { stage = stage_of l.phase; form = l.form; count = l.count; behind = l.behind.now }
+front_as l = record { stage = stage_of l.phase; form = l.head.form; count = l.head.count; behind = l.behind.now }
 
 abbrev pub front_of : Option Front → Option (Lead Stage)
 front_of None = None

@@ -5,7 +5,8 @@ use Rattle.codec.specs.Rows.{Wide}
 use Rattle.operator.specs.Machine.{Machine, Move, row, busy, end}
 use Rattle.operator.specs.Laws.{Meaning}
 use Rattle.pairing.specs.Terms.{Terms, block_size}
-use Rattle.pairing.specs.Pairs.{Pairing, blocks, matches, scanned, joined, scan_steps, all_steps, Hit, first}
+use Rattle.pairing.specs.declared.pair.Hit.{Hit}
+use Rattle.pairing.specs.Pairs.{Pairing, blocks, matches, scanned, joined, scan_steps, all_steps, first}
 use Rattle.keeper.specs.Taking.{Taken, untaken, over, with_row, signing}
 use Rattle.keeper.specs.Keeping.{Keeping, keeping, Sense, keeper_machine, keeper_meaning}
 use Rattle.block_join.specs.Stages.{Stage, empty, filling, scanning, matching, join_kind}

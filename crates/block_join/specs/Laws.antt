@@ -8,7 +8,7 @@ use Rattle.operator.specs.Machine.{Machine, Good}
 use Rattle.operator.specs.Laws.{Meaning, Laws}
 use Rattle.operator.proofs.Steps.{begun}
 use Rattle.pairing.specs.Terms.{Terms, block_size}
-use Rattle.pairing.proofs.Widths.{matches_wide, scanned_wide, joined_wide}
+use Rattle.pairing.proofs.WideRows.{matches_wide, scanned_wide, joined_wide}
 use Rattle.keeper.specs.Taking.{Taken}
 use Rattle.keeper.specs.Keeping.{Keeping, keeping, Standing}
 use Rattle.keeper.proofs.Laws as keeper_laws

@@ -9,7 +9,8 @@ use Rattle.operator.specs.Machine.{Machine, Move, Good, row, busy, end}
 use Rattle.operator.specs.Laws.{Meaning, Laws, Same, Meant}
 use Rattle.operator.proofs.Steps.{same_self}
 use Rattle.pairing.specs.Terms.{Terms, block_size}
-use Rattle.pairing.specs.Pairs.{Pairing, blocks, matches, scanned, joined, scan_steps, block_steps, all_steps, Hit, first}
+use Rattle.pairing.specs.declared.pair.Hit.{Hit}
+use Rattle.pairing.specs.Pairs.{Pairing, blocks, matches, scanned, joined, scan_steps, block_steps, all_steps, first}
 use Rattle.pairing.proofs.Pairs.{scanned_more, scanned_none, joined_more, joined_none, scan_steps_more, scan_steps_none, all_steps_more, all_steps_none, blocks_none, blocks_full, blocks_last, Found, found}
 use Rattle.keeper.specs.Taking.{Taken, untaken, over, with_row, signing}
 use Rattle.keeper.specs.Keeping.{Keeping, keeping, Standing}

@@ -1,30 +1,29 @@
 // The operator.
-ghost use Rattle.std.specs.Prelude.{◌≡◌, ℕ, ◌≤◌, length};
+ghost use Rattle.std.specs.Prelude.{◌≡◌, ℕ, ◌≤◌, min, length};
 ghost use Rattle.operator.specs.Machine.{Good, New};
 ghost use Rattle.operator.specs.Laws.{meaning};
 ghost use Rattle.operator.specs.Of.{of};
 ghost use Rattle.pairing.specs.Terms.{terms_of, block_size};
 ghost use Rattle.pairing.specs.Joined.{Join};
-ghost use Rattle.block.specs.Places.{Puts};
+ghost use Rattle.block.specs.Places.{Put, SameBuffer};
 ghost use Rattle.keeper.specs.Taking.{untaken};
-ghost use Rattle.keeper.specs.Keeping.{Keeping, keeping, only, refetch_tail};
+ghost use Rattle.keeper.specs.Keeping.{Keeping, keeping, only, parsed, refetch_tail};
 ghost use Rattle.keeper.specs.Outer.{Restores};
 ghost use Rattle.block_join.specs.Stages.{Stage, empty, within_scan, join_kind};
 ghost use Rattle.block_join.specs.Joining.{join_machine, join_meaning};
-ghost use Rattle.block_join.specs.Code.{stage_of, joining, Asked};
+ghost use Rattle.block_join.specs.Code.{stage_of, joining, parts_of, AllEnough, Asked};
 ghost use Rattle.block_join.specs.Laws;
 
-use crate::front::{front_size, write_front_at};
-use crate::parts::parts_in;
+use crate::front::{front_size, put_front};
+use crate::parts::{Parts, parts_in};
 use crate::phase::Phase;
-use block::{goes_back, inner_choices, outer_choices, write_at};
-use codec::{Row, frame_head};
-use keeper::{OuterBlock, load_or_rewind, write_plan_at, write_record_at};
+use block::{Choices, Head, Writer};
+use codec::frame_head;
+use keeper::{OuterBlock, load_or_rewind, put_plan, put_record};
 use operator::{Answer, Operator};
-use pairing::{JoinRule, next_match};
+use pairing::{Hit, JoinRule, Widths, next_match};
+use plan::Kind;
 use refusal::Refusal;
-
-const KIND: u8 = 3;
 
 #[derive(Drop)]
 pub struct BlockJoin<O, I> {
@@ -34,26 +33,22 @@ pub struct BlockJoin<O, I> {
     inner: I,
 }
 
-// Steps the child that the phase asks.
-fn ask<O: Operator, I: Operator>(
-    phase: Phase,
-    outer: &mut O,
-    inner: &mut I,
-    row: &mut Row,
-) -> Answer
-    ensures { Asked O.Operator I.Operator phase result outer.old inner.old row.old outer.new inner.new row.new }
+// Steps the child that the phase asks. A match: a rule of the project has one match on the phase and this answer, and a
+// closure for each phase would have to hold both children.
+fn ask<O: Operator, I: Operator>(phase: Phase, outer: &mut O, inner: &mut I) -> Answer
+    ensures { Asked O.Operator I.Operator phase result outer.old inner.old outer.new inner.new }
 {
     match phase {
-        Phase::Filling => outer.step(row),
-        Phase::Scanning => inner.step(row),
-        Phase::Empty => Answer::Busy,
-        Phase::Matching { .. } => Answer::Busy,
+        Phase::Filling => outer.step(),
+        Phase::Scanning => inner.step(),
+        Phase::Empty | Phase::Matching { .. } => Answer::Busy,
     }
 }
 
 impl<O: Operator, I: Operator> BlockJoin<O, I> {
     // A join in phase 0: over new children, at its beginning. Its whole list is the join of its children's, in the order
     // of blocks, inner rows and block rows.
+    #[tactic(auto, using(pairing::proofs::Law::join_law, keeper::proofs::Laws::size_some))]
     pub fn new(rule: JoinRule, outer: O, inner: I) -> BlockJoin<O, I>
         ensures is { joining O.Operator I.Operator result ≡ keeping (terms_of rule) empty (untaken (O.Operator.state outer)) (I.Operator.state inner) }
         ensures fresh { New O.Operator.machine O.Operator.standing (O.Operator.state outer) → New I.Operator.machine I.Operator.standing (I.Operator.state inner) → New (join_machine O.Operator.machine O.Operator.togo I.Operator.machine) (join_meaning O.Operator.machine (of O.Operator) I.Operator.machine (of I.Operator)).standing (joining O.Operator I.Operator result) }
@@ -64,6 +59,16 @@ impl<O: Operator, I: Operator> BlockJoin<O, I> {
             phase: Phase::Empty,
             outer: OuterBlock::new(outer),
             inner,
+        }
+    }
+
+    // The widths of its children.
+    fn widths(&self) -> Widths
+        ensures { result ≡ record { outer = O.Operator.machine.width (O.Operator.state self.now.outer.child); inner = I.Operator.machine.width (I.Operator.state self.now.inner) } }
+    {
+        Widths {
+            outer: self.outer.child.width(),
+            inner: self.inner.width(),
         }
     }
 
@@ -78,14 +83,13 @@ impl<O: Operator, I: Operator> BlockJoin<O, I> {
         }
     }
 
-    // Writes the inner child's record from a place on, where one is written.
-    fn write_tail(&self, choices: &[u8], buffer: &mut [u8], at: usize) -> usize
-        ensures { Good I.Operator.machine I.Operator.standing (I.Operator.state self.now.inner) → Puts at (only (within_scan (stage_of self.now.phase)) (I.Operator.machine.saved (I.Operator.state self.now.inner) choices.now)) buffer.old buffer.new result }
+    // Puts the inner child's record, where one is written.
+    fn put_tail(&self, choices: &[u8], writer: &mut Writer<'_>)
+        ensures same_buffer { SameBuffer writer.old writer.new }
+        ensures put { Good I.Operator.machine I.Operator.standing (I.Operator.state self.now.inner) → Put (only (within_scan (stage_of self.now.phase)) (I.Operator.machine.saved (I.Operator.state self.now.inner) choices.now)) writer.old writer.new }
     {
         if self.phase.in_scan() {
-            write_record_at(&self.inner, choices, buffer, at)
-        } else {
-            at
+            put_record(&self.inner, choices, writer);
         }
     }
 
@@ -100,15 +104,20 @@ impl<O: Operator, I: Operator> BlockJoin<O, I> {
         }
     }
 
+    // The parts of a record.
+    fn parts<'a>(&self, bytes: &'a [u8]) -> Option<Parts<'a>>
+        ensures is { parsed join_kind.phases (block_size (terms_of self.now.rule)) (min 8 (O.Operator.machine.width (O.Operator.state self.now.outer.child))) (min 8 (I.Operator.machine.width (I.Operator.state self.now.inner))) bytes.now ≡ parts_of (min 8 (O.Operator.machine.width (O.Operator.state self.now.outer.child))) result }
+        ensures enough { AllEnough (min 8 (O.Operator.machine.width (O.Operator.state self.now.outer.child))) result }
+    {
+        parts_in(self.rule.block_size(), self.widths(), bytes)
+    }
+
     // Restores what a record says; refused, only the beginning is left as it was.
     fn resume(&mut self, bytes: &[u8]) -> Result<(), Refusal>
         ensures restored { (join_machine O.Operator.machine O.Operator.togo I.Operator.machine).operators (joining O.Operator I.Operator self.old) ≤ 16 → Restores ((join_machine O.Operator.machine O.Operator.togo I.Operator.machine).restored (joining O.Operator I.Operator self.old) bytes.now) result (joining O.Operator I.Operator self.new) }
         ensures begins { (join_machine O.Operator.machine O.Operator.togo I.Operator.machine).operators (joining O.Operator I.Operator self.old) ≤ 16 → (join_machine O.Operator.machine O.Operator.togo I.Operator.machine).begin (joining O.Operator I.Operator self.new) ≡ (join_machine O.Operator.machine O.Operator.togo I.Operator.machine).begin (joining O.Operator I.Operator self.old) }
     {
-        let size = self.rule.block_size();
-        let Some(parts) = parts_in(size, self.outer.child.width(), self.inner.width(), bytes) else {
-            return Err(Refusal::Unreadable);
-        };
+        let parts = self.parts(bytes).ok_or(Refusal::Unreadable)?;
         self.phase = parts.phase;
         self.outer.load(parts.stored)?;
         load_or_rewind(parts.phase.in_scan(), &mut self.inner, parts.tail)
@@ -164,7 +173,7 @@ impl<O: Operator, I: Operator> Operator for BlockJoin<O, I> {
         let rule = self.rule;
         let [a, b, c, d] = rule.band.to_be_bytes();
         let own = [
-            KIND,
+            u8::from(Kind::BlockJoin),
             rule.size,
             rule.outer_cell,
             rule.inner_cell,
@@ -174,58 +183,45 @@ impl<O: Operator, I: Operator> Operator for BlockJoin<O, I> {
             c,
             d,
         ];
-        let outer = write_at(buffer, 0, &own);
-        let inner = write_plan_at(&self.outer.child, buffer, outer);
-        write_plan_at(&self.inner, buffer, inner);
+        let mut writer = Writer::new(buffer);
+        writer.put_bytes(&own);
+        put_plan(&self.outer.child, &mut writer);
+        put_plan(&self.inner, &mut writer);
         Ok(size)
     }
 
-    fn check(&self, first: usize) -> Option<Refusal> {
+    fn check(&self, first: usize) -> Result<(), Refusal> {
         let outer = first.saturating_add(1);
-        if let Some(refusal) = self.outer.child.check(outer) {
-            return Some(refusal);
-        }
+        self.outer.child.check(outer)?;
         let inner = outer.saturating_add(self.outer.child.operators());
-        if let Some(refusal) = self.inner.check(inner) {
-            return Some(refusal);
-        }
-        self.rule
-            .fault(self.outer.child.width(), self.inner.width(), first)
+        self.inner.check(inner)?;
+        self.rule.check(self.widths(), first)
     }
 
-    fn step(&mut self, row: &mut Row) -> Answer {
-        let mut found = Row::EMPTY;
-        let answer = ask(
-            self.phase,
-            &mut self.outer.child,
-            &mut self.inner,
-            &mut found,
-        );
+    fn step(&mut self) -> Answer {
+        let answer = ask(self.phase, &mut self.outer.child, &mut self.inner);
         match (self.phase, answer) {
             (Phase::Empty, _) => {
                 self.outer.sign();
                 self.phase = Phase::Filling;
                 Answer::Busy
             }
-            (Phase::Filling, Answer::Row) => {
-                self.outer.add(found);
+            (Phase::Filling, Answer::Row(row)) => {
+                self.outer.add(row);
                 if self.outer.rows().len() >= self.rule.block_size() {
                     self.phase = Phase::Scanning;
                 }
                 Answer::Busy
             }
             (Phase::Filling, Answer::End) => {
-                if self.outer.rows().len() == 0 {
+                if self.outer.rows().is_empty() {
                     return Answer::End;
                 }
                 self.phase = Phase::Scanning;
                 Answer::Busy
             }
-            (Phase::Scanning, Answer::Row) => {
-                self.phase = Phase::Matching {
-                    held: found,
-                    index: 0,
-                };
+            (Phase::Scanning, Answer::Row(held)) => {
+                self.phase = Phase::Matching { held, index: 0 };
                 Answer::Busy
             }
             (Phase::Scanning, Answer::End) => {
@@ -237,10 +233,10 @@ impl<O: Operator, I: Operator> Operator for BlockJoin<O, I> {
             (Phase::Filling | Phase::Scanning, Answer::Busy) => Answer::Busy,
             (Phase::Matching { held, index }, _) => {
                 let width = self.outer.child.width();
-                match next_match(self.outer.rows(), &self.rule, width, &held, index, row) {
-                    Some(next) => {
+                match next_match(self.outer.rows(), &self.rule, width, &held, index) {
+                    Some(Hit { row, next }) => {
                         self.phase = Phase::Matching { held, index: next };
-                        Answer::Row
+                        Answer::Row(row)
                     }
                     None => {
                         self.phase = Phase::Scanning;
@@ -262,59 +258,51 @@ impl<O: Operator, I: Operator> Operator for BlockJoin<O, I> {
         if buffer.len() < size {
             return Err(Refusal::Short);
         }
-        let back = goes_back(choices);
-        let keepers = self.outer.child.keepers();
-        let form = self.outer.form(back);
-        let count = (self.outer.rows().len() % 256) as u8;
-        let front = write_at(buffer, 0, &frame_head(size.saturating_sub(2)));
-        let width = self.inner.width();
-        let part = write_front_at(self.phase, width, form, count, buffer, front);
-        let outers = outer_choices(choices, keepers);
-        let tail = self.outer.write_part(back, outers, buffer, part);
-        self.write_tail(inner_choices(choices, keepers), buffer, tail);
+        let choices = Choices::split(choices, self.outer.child.keepers());
+        let head = Head {
+            form: u8::from(self.outer.form(choices.back)),
+            // At most 16, so the cast loses nothing.
+            count: self.outer.rows().len() as u8,
+        };
+        let mut writer = Writer::new(buffer);
+        writer.put_bytes(&frame_head(size.saturating_sub(2)));
+        put_front(self.phase, self.inner.width(), head, &mut writer);
+        self.outer.put_part(choices, &mut writer);
+        self.put_tail(choices.inner, &mut writer);
         Ok(size)
     }
 
     fn load(&mut self, bytes: &[u8]) -> Result<(), Refusal> {
-        match self.resume(bytes) {
-            Ok(()) => Ok(()),
-            Err(refusal) => {
-                self.rewind();
-                Err(refusal)
-            }
+        let loaded = self.resume(bytes);
+        if loaded.is_err() {
+            self.rewind();
         }
+        loaded
     }
 
     fn size(&self, choices: &[u8]) -> usize {
-        let keepers = self.outer.child.keepers();
+        let choices = Choices::split(choices, self.outer.child.keepers());
         let front = front_size(self.phase, self.inner.width());
-        let part = self
-            .outer
-            .part_size(goes_back(choices), outer_choices(choices, keepers));
-        let tail = self.tail_size(inner_choices(choices, keepers));
+        let part = self.outer.part_size(choices);
+        let tail = self.tail_size(choices.inner);
         part.saturating_add(tail).saturating_add(2 + front)
     }
 
     fn refetch(&self, choices: &[u8]) -> u32 {
-        let keepers = self.outer.child.keepers();
-        let part = self
-            .outer
-            .refetch(goes_back(choices), outer_choices(choices, keepers));
-        part.saturating_add(self.tail_refetch(inner_choices(choices, keepers)))
+        let choices = Choices::split(choices, self.outer.child.keepers());
+        let part = self.outer.refetch(choices);
+        part.saturating_add(self.tail_refetch(choices.inner))
     }
 
     fn refetch_of(&self, bytes: &[u8]) -> u32 {
-        let size = self.rule.block_size();
-        match parts_in(size, self.outer.child.width(), self.inner.width(), bytes) {
-            Some(parts) => {
-                let part = self.outer.refetch_of(parts.stored);
-                if parts.phase.in_scan() {
-                    part.saturating_add(self.inner.refetch_of(parts.tail))
-                } else {
-                    part
-                }
-            }
-            None => 0,
+        let Some(parts) = self.parts(bytes) else {
+            return 0;
+        };
+        let part = self.outer.refetch_of(parts.stored);
+        if parts.phase.in_scan() {
+            part.saturating_add(self.inner.refetch_of(parts.tail))
+        } else {
+            part
         }
     }
 }

@@ -6,7 +6,7 @@ ghost use Rattle.block_join.specs.Code.{stage_of};
 use codec::Row;
 
 // Phase 0; phase 1; phase 2 without an inner row held; phase 2 with one, and the next index into the block.
-#[derive(Clone, Copy)]
+#[derive(Clone, Copy, PartialEq, Eq, Debug)]
 pub enum Phase {
     Empty,
     Filling,
@@ -19,11 +19,6 @@ impl Phase {
     pub fn in_scan(self) -> bool
         ensures { result ≡ within_scan (stage_of self) }
     {
-        match self {
-            Phase::Empty => false,
-            Phase::Filling => false,
-            Phase::Scanning => true,
-            Phase::Matching { .. } => true,
-        }
+        matches!(self, Phase::Scanning | Phase::Matching { .. })
     }
 }

@@ -1,11 +1,12 @@
 -- Rows of a width, read and written. Assumes nothing.
-use Rattle.std.proofs.Common.{◌≡◌, ℕ, zero, suc, ◌+◌, ◌-◌, ◌*◌, ◌<◌, ◌≤◌, Bool, true, false, ◌&&◌, eqb, ltb, List, [], ◌∷◌, ◌++◌, length, get_or, take, drop, set, replicate, ℤ, pos, negsuc, Decides, sym, refl, ap, ◌∙◌, ⊎_elim, append_assoc, arith, length-append, length-drop, w32, SFits, to_z}
+use Rattle.std.proofs.Common.{◌≡◌, ℕ, zero, suc, ◌+◌, ◌-◌, ◌*◌, ◌/◌, ◌<◌, ◌≤◌, Bool, true, false, ◌&&◌, eqb, ltb, List, [], ◌∷◌, ◌++◌, length, get_or, take, drop, set, replicate, ℤ, pos, negsuc, Decides, sym, refl, ap, ◌∙◌, ⊎_elim, append_assoc, arith, length-append, length-drop, length-take, w32, SFits, to_z}
 use lib.ListN.{length-replicate}
 use lib.Signed.{mag}
 use mir.Val.{sel}
 use Rattle.std.specs.List.{AllByRecursion}
+use Rattle.std.specs.Simd.{first_chunks}
 use Rattle.std.proofs.ByRecursion.{All-get_or, All-append, Decides-by_and}
-use Rattle.std.proofs.lemmas.List.{set_at, take_at, drop_at, take-append-drop, get_or_past, get_or-drop, length-take-le}
+use Rattle.std.proofs.lemmas.List.{set_at, take_at, drop_at, drop-drop, get_or-take, take-append-drop, get_or_past, get_or-drop, length-take-le}
 use Rattle.std.proofs.lemmas.Bool.{ltb-true, ltb-false, lt-ltb, eqb-true, eq-eqb, cases_lt}
 use Rattle.std.proofs.lemmas.Bool.Decides.{Decides-and, Decides-eqb, Decides-like}
 use Rattle.codec.specs.declared.row.Row.{Row}
@@ -81,6 +82,24 @@ row_wide w bs h = record {
 pub rows_wide : (w n : ℕ) (bs : List ℕ) → w ≤ 8 → AllByRecursion (Wide w) (rows_of w n bs)
 rows_wide w zero bs h = tt
 rows_wide w (suc n) bs h = (row_wide w bs h, rows_wide w n (drop (4 * w) bs) h)
+
+-- the cells of bytes in fours
+front_cell : (bs : List ℕ) → cell_of (take 4 bs) ≡ cell_of bs
+front_cell [] = refl
+front_cell (a ∷ []) = refl
+front_cell (a ∷ b ∷ []) = refl
+front_cell (a ∷ b ∷ c ∷ []) = refl
+front_cell (a ∷ b ∷ c ∷ d ∷ bs) = refl
+
+four_cell : (k i : ℕ) (bs : List ℕ) → i < k → cell_of (get_or (first_chunks 4 k bs) i []) ≡ cell_of (drop (4 * i) bs)
+four_cell zero i bs h = absurd (omega arith)
+four_cell (suc k) zero bs h = front_cell bs ∙ (let e : 0 ≡ 4 * 0 = omega arith in ap (λ m. cell_of (drop m bs)) e)
+four_cell (suc k) (suc i) bs h = four_cell k i (drop 4 bs) (omega arith) ∙ ap cell_of (drop-drop (4 * i) 4 bs) ∙ (let e : 4 + 4 * i ≡ 4 * suc i = omega arith in ap (λ m. cell_of (drop m bs)) e)
+
+pub cell_in_fours : (bs : List ℕ) (fours : List (List ℕ)) (n i : ℕ) → fours ≡ first_chunks 4 (length bs / 4) bs → 4 * n ≤ length bs → i < length (take n fours) → cell_of (get_or (take n fours) i []) ≡ cell_of (drop (4 * i) bs)
+cell_in_fours bs fours n i e h lt =
+    let l : i < n = omega (arith, lt, length-take n fours) in
+    ap cell_of (get_or-take n fours i [] l) ∙ ap (λ (xs : List (List ℕ)). cell_of (get_or xs i [])) e ∙ four_cell (length bs / 4) i bs (omega arith)
 
 -- one cell more read
 pub row_more : (n : ℕ) (bs : List ℕ) → n < 8 → set (row_of n bs).cells n (cell_of (drop (4 * n) bs)) ≡ (row_of (n + 1) bs).cells

@@ -1,5 +1,5 @@
 -- Rows: eight cells, of which the first ones, as many as the width, are used. Assumes nothing.
-use Rattle.std.specs.Prelude.{◌≡◌, ℕ, zero, suc, ◌-◌, ◌*◌, Bool, true, false, ◌&&◌, List, [], ◌∷◌, ◌++◌, length, take, drop, replicate, ℤ, pos, negsuc, FitsSigned, ◌==◌, nat_lt, slice_index_or}
+use Rattle.std.specs.Prelude.{◌≡◌, ℕ, zero, suc, ◌-◌, ◌*◌, Bool, true, false, cond, ◌&&◌, List, [], ◌∷◌, ◌++◌, length, take, drop, replicate, ℤ, pos, negsuc, Some, None, Option, FitsSigned, ◌==◌, nat_le, nat_lt, slice_index_or}
 use Rattle.std.specs.Int.Signed.{mag}
 use Rattle.std.specs.Int.{w32}
 use Rattle.std.specs.List.{AllByRecursion}
@@ -42,6 +42,10 @@ row_bytes w r = cells_bytes (take w r.cells)
 -- w cells from the bytes, and zeros behind them
 abbrev pub row_of : ℕ → List ℕ → Row
 row_of w bs = record { cells = cells_of w bs ++ replicate (8 - w) (pos 0) }
+
+-- the row at the bytes' front, where they are enough for it
+abbrev pub front_row : ℕ → List ℕ → Option Row
+front_row w bs = cond (nat_le (4 * w) (length bs)) (Some (row_of w bs)) None
 
 -- n rows end to end
 abbrev pub rows_of : ℕ → ℕ → List ℕ → List Row

@@ -10,7 +10,7 @@ use refusal::Refusal;
 pub fn bytes_from(bytes: &[u8], at: usize) -> &[u8]
     ensures { result.now ≡ drop at bytes.now }
 {
-    if at < bytes.len() { &bytes[at..] } else { &[] }
+    bytes.get(at..).unwrap_or(&[])
 }
 
 // Writes bytes to the buffer's front, if there is room; the rest of the buffer stays.
@@ -29,21 +29,22 @@ pub fn write_front(buffer: &mut [u8], part: &[u8]) -> Result<usize, Refusal>
 pub fn frame_head(length: usize) -> [u8; 2]
     ensures { result ≡ be2 length }
 {
-    [(length / 256 % 256) as u8, (length % 256) as u8]
+    // The remainder is the number's low two bytes, so the cast loses nothing; `try_from` would need a case for what is above.
+    let length = (length % 65536) as u16;
+    length.to_be_bytes()
 }
 
 // The body of a record, if the bytes are one record and nothing more.
 pub fn body_of(bytes: &[u8]) -> Option<&[u8]>
     ensures { Found result (body bytes.now) }
 {
-    match bytes {
-        [hi, lo, rest @ ..] => {
-            if usize::from(*hi) * 256 + usize::from(*lo) == rest.len() {
-                Some(rest)
-            } else {
-                None
-            }
-        }
-        _ => None,
+    let [hi, lo, body @ ..] = bytes else {
+        return None;
+    };
+    let length = u16::from_be_bytes([*hi, *lo]);
+    if usize::from(length) == body.len() {
+        Some(body)
+    } else {
+        None
     }
 }

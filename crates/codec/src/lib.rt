@@ -5,4 +5,4 @@ mod frame;
 mod row;
 
 pub use frame::{body_of, bytes_from, frame_head, write_front};
-pub use row::{Row, fill_row, layouts_read_back, write_row};
+pub use row::{Row, layouts_read_back, read_row, write_row};

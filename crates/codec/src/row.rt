@@ -1,39 +1,42 @@
 // Rows of cells.
-ghost use Rattle.std.specs.Prelude.{◌≡◌, ℕ, ◌+◌, ◌*◌, ◌≤◌, min, length, take, drop, if◌then◌else◌, nat_le};
+ghost use Rattle.std.specs.Prelude.{◌≡◌, ℕ, ◌+◌, ◌*◌, ◌≤◌, min, length, take, drop};
 ghost use Rattle.codec.specs.Bytes.{cell_bytes, cell_of, cells_bytes, overwrite};
-ghost use Rattle.codec.specs.Rows.{cell_at, row_of, row_bytes};
+ghost use Rattle.codec.specs.Rows.{cell_at, front_row, row_bytes};
 ghost use Rattle.codec.specs.Layouts.{ReadBack};
 ghost use Rattle.codec.specs.Written.{Wrote};
 
 use refusal::Refusal;
 
 // Up to eight cells, and zeros behind its width.
-#[derive(Clone, Copy, PartialEq, Eq, Debug)]
+#[derive(Clone, Copy, PartialEq, Eq, Debug, Default)]
 pub struct Row {
     pub cells: [i32; 8],
 }
 
 impl Row {
-    // A row of zeros, for a caller who is to be answered one.
-    pub const EMPTY: Row = Row { cells: [0; 8] };
-
     // One cell; a missing one reads 0.
     pub fn cell(&self, at: u8) -> i32
         ensures { result ≡ cell_at self.now at }
     {
-        if at < 8 {
-            self.cells[usize::from(at)]
-        } else {
-            0
-        }
+        self.cells.get(usize::from(at)).copied().unwrap_or(0)
     }
 }
 
-fn get_cell(bytes: &[u8], at: usize) -> i32
-    requires { at + 4 ≤ length bytes.now }
-    ensures { result ≡ cell_of (drop at bytes.now) }
+// The row at the bytes' front; none where they are too few. A type for widths of at most 8 would ask more of callers.
+pub fn read_row(bytes: &[u8], width: usize) -> Option<Row>
+    ensures { result ≡ front_row (min 8 width) bytes.now }
 {
-    i32::from_be_bytes([bytes[at], bytes[at + 1], bytes[at + 2], bytes[at + 3]])
+    let count = width.min(8);
+    if bytes.len() < 4 * count {
+        return None;
+    }
+    let (fours, _) = bytes.as_chunks::<4>();
+    let mut cells = [0; 8];
+    // By index: behind an `iter_mut` the proof knows the length and no cell.
+    for (i, four) in fours[..count].iter().enumerate() {
+        cells[i] = i32::from_be_bytes(*four);
+    }
+    Some(Row { cells })
 }
 
 fn put_cell(bytes: &mut [u8], at: usize, cell: i32)
@@ -43,29 +46,13 @@ fn put_cell(bytes: &mut [u8], at: usize, cell: i32)
     bytes[at..at + 4].copy_from_slice(&cell.to_be_bytes());
 }
 
-// Fills the row with the cells at the bytes' front; where they are too few, answers false and the row stays.
-pub fn fill_row(bytes: &[u8], width: usize, row: &mut Row) -> bool
-    ensures enough { result ≡ nat_le (4 * min 8 width) (length bytes.now) }
-    ensures filled { row.new ≡ (if result then row_of (min 8 width) bytes.now else row.old) }
+fn put_cells(buffer: &mut [u8], cells: &[i32])
+    requires { 4 * length cells.now ≤ length buffer.old }
+    ensures { buffer.new ≡ overwrite 0 (cells_bytes cells.now) buffer.old }
 {
-    let count = width.min(8);
-    if bytes.len() < 4 * count {
-        return false;
-    }
-    let mut cells = [0; 8];
-    for i in 0..count {
-        cells[i] = get_cell(bytes, 4 * i);
-    }
-    row.cells = cells;
-    true
-}
-
-fn put_cells(buffer: &mut [u8], cells: &[i32], count: usize)
-    requires { (4 * count ≤ length buffer.old) × (count ≤ length cells.now) }
-    ensures { buffer.new ≡ overwrite 0 (cells_bytes (take count cells.now)) buffer.old }
-{
-    for i in 0..count {
-        put_cell(buffer, 4 * i, cells[i]);
+    // By index: behind a `chunks_mut` the proof knows the length and no byte.
+    for (i, cell) in cells.iter().enumerate() {
+        put_cell(buffer, 4 * i, *cell);
     }
 }
 
@@ -73,13 +60,13 @@ fn put_cells(buffer: &mut [u8], cells: &[i32], count: usize)
 pub fn write_row(buffer: &mut [u8], width: usize, row: &Row) -> Result<usize, Refusal>
     ensures { Wrote (row_bytes (min 8 width) row.now) buffer.old buffer.new result }
 {
-    let cells: &[i32] = &row.cells;
-    let count = width.min(cells.len());
-    if buffer.len() < 4 * count {
+    let cells = &row.cells[..width.min(8)];
+    let size = 4 * cells.len();
+    if buffer.len() < size {
         return Err(Refusal::Short);
     }
-    put_cells(buffer, cells, count);
-    Ok(4 * count)
+    put_cells(buffer, cells);
+    Ok(size)
 }
 
 // Numbers, cells, rows and records read back as what was written, and bytes are written back as what was read.

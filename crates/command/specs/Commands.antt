@@ -4,7 +4,7 @@ use Rattle.std.specs.Borrow.{Bor}
 use Rattle.filter.specs.declared.condition.Criterion.{Criterion}
 use Rattle.command.specs.declared.command.Command.{Command}
 use Rattle.command.specs.declared.command.Command.TheVariants.{Filter, Ramp}
-use Rattle.command.specs.Words.{Reads, Spells, SpellsSigned, SpellsCriterion}
+use Rattle.command.specs.Words.{Reads, SpellsCriterion, SpellsSlope}
 
 -- a filter: a path and a criterion
 abbrev pub AsksFilter : (path cell condition constant : List ℕ) → Command → Type 0
@@ -14,7 +14,7 @@ AsksFilter path cell condition constant (Ramp l c) = ⊥
 -- a ramp: start, step and count, and a criterion
 abbrev pub AsksRamp : (start step count : List ℕ) → Criterion → Command → Type 0
 AsksRamp start step count wanted (Filter p c) = ⊥
-AsksRamp start step count wanted (Ramp l c) = SpellsSigned start l.start × SpellsSigned step l.step × Spells 16 count l.count × (c ≡ wanted)
+AsksRamp start step count wanted (Ramp l c) = SpellsSlope start step count l × (c ≡ wanted)
 
 -- five words for a filter, seven for a ramp
 pub record FilterWords (name path cell condition constant : Bor (List ℕ)) (c : Command) : Type 0 where

@@ -6,5 +6,5 @@ mod number;
 mod report;
 
 pub use command::{Command, command_of, criterion_of};
-pub use number::{byte_of, cell_of, count_of};
+pub use number::{Number, number_of};
 pub use report::refusal_text;

@@ -1,22 +1,15 @@
 // The worked examples, run by the code and printed beside the theorem that proves them of the definitions.
 #![tactic(auto)]
 
-use anyhow::anyhow;
 use codec::{Row, layouts_read_back, write_row};
 use filter::{Criterion, Filter};
-use operator::{Answer, Operator};
+use operator::Operator;
 use plan::is_one_tree;
-use refusal::Refusal;
+use printing::{Cells, HexBytes, P};
 use scan::Scan;
 use select::select_image;
-use source::{Image, Ramp, Source};
+use source::{Image, Ramp, Slope, Source};
 use worked::examples_hold;
-
-// The table P: (3,-200), (4,0), (5,150).
-const P: [u8; 28] = [
-    1, 0, 3, 2, 0, 0, 0, 3, 0xFF, 0xFF, 0xFF, 0x38, 0, 0, 0, 4, 0, 0, 0, 0, 0, 0, 0, 5, 0, 0, 0,
-    0x96,
-];
 
 // P with one byte more.
 const LONGER: [u8; 29] = [
@@ -24,131 +17,97 @@ const LONGER: [u8; 29] = [
     0x96, 0,
 ];
 
-// A refusal, by its number and word.
-fn print_refusal(rt: &HostRuntime, refusal: Refusal) -> anyhow::Result<()> {
-    let number = refusal.number();
-    let word = refusal.word();
-    println!(rt; " {number} {word}")?;
+// The rows whose cell 1 is above 0.
+const ABOVE_0: Criterion = Criterion {
+    cell: 1,
+    condition: b'>',
+    constant: 0,
+};
+
+// A row of two cells.
+fn print_pair(rt: &impl Print, row: &Row) -> anyhow::Result<()> {
+    print!(rt; " {}", Cells(&row.cells[..2]))?;
     Ok(())
 }
 
-// The rows of a source, by their first two cells.
-fn print_source<S: Source>(rt: &HostRuntime, source: &S) -> anyhow::Result<()> {
-    let mut row = Row::EMPTY;
-    for i in 0..source.count() {
-        if source.row(i, &mut row) {
-            let a = row.cell(0);
-            let b = row.cell(1);
-            print!(rt; " ({a},{b})")?;
-        }
+fn print_source(rt: &impl Print, source: &impl Source) -> anyhow::Result<()> {
+    for row in (0..source.count()).filter_map(|i| source.row(i)) {
+        print_pair(rt, &row)?;
     }
     println!(rt; "")?;
     Ok(())
 }
 
-fn print_image(rt: &HostRuntime, name: &str, bytes: &[u8]) -> anyhow::Result<()> {
+fn print_image(rt: &impl Print, name: &str, bytes: &[u8]) -> anyhow::Result<()> {
     print!(rt; "{name}:")?;
     match Image::new(bytes) {
-        Ok(image) => print_source(rt, &image),
-        Err(refusal) => print_refusal(rt, refusal),
+        Ok(image) => print_source(rt, &image)?,
+        Err(refusal) => println!(rt; " {refusal}")?,
     }
+    Ok(())
 }
 
-fn print_ramp(rt: &HostRuntime, start: i32, step: i32, count: u16) -> anyhow::Result<()> {
+fn print_ramp(rt: &impl Print, start: i32, step: i32, count: u16) -> anyhow::Result<()> {
     print!(rt; "ramp {start} step {step} count {count}:")?;
-    match Ramp::new(start, step, count) {
-        Ok(ramp) => print_source(rt, &ramp),
-        Err(refusal) => print_refusal(rt, refusal),
+    match Ramp::new(Slope { start, step, count }) {
+        Ok(ramp) => print_source(rt, &ramp)?,
+        Err(refusal) => println!(rt; " {refusal}")?,
     }
-}
-
-fn print_filter(rt: &HostRuntime) -> anyhow::Result<()> {
-    print!(rt; "P by cell 1 > 0:")?;
-    match select_image(
-        rt.alloc(),
-        &P,
-        Criterion {
-            cell: 1,
-            condition: b'>',
-            constant: 0,
-        },
-    ) {
-        Ok(found) => {
-            for row in found.rows.iter() {
-                let a = row.cell(0);
-                let b = row.cell(1);
-                print!(rt; " ({a},{b})")?;
-            }
-            println!(rt; "")?;
-            Ok(())
-        }
-        Err(_) => Err(anyhow!("refused")),
-    }
-}
-
-fn print_bytes(rt: &HostRuntime, bytes: &[u8]) -> anyhow::Result<()> {
-    for byte in bytes.iter() {
-        print!(rt; " {byte:02x}")?;
-    }
-    println!(rt; "")?;
     Ok(())
 }
 
 // The last row of P as bytes.
-fn print_row(rt: &HostRuntime) -> anyhow::Result<()> {
+fn print_row(rt: &impl Print) -> anyhow::Result<()> {
     let row = Row {
         cells: [5, 150, 0, 0, 0, 0, 0, 0],
     };
     let mut bytes = [0u8; 8];
-    let _size = write_row(&mut bytes, 2, &row);
-    print!(rt; "row (5,150):")?;
-    print_bytes(rt, &bytes)
+    write_row(&mut bytes, 2, &row)?;
+    println!(rt; "row (5,150):{}", HexBytes(&bytes))?;
+    Ok(())
 }
 
-// The plan of the filter "cell 1 above 0" over a scan of P.
-fn print_plan(rt: &HostRuntime) -> anyhow::Result<()> {
-    let Ok(image) = Image::new(&P) else {
-        return Err(anyhow!("refused"));
-    };
-    let tree = Filter::new(Scan::new(image), 1, b'>', 0);
+fn print_filter(rt: &HostRuntime) -> anyhow::Result<()> {
+    print!(rt; "P by cell 1 > 0:")?;
+    for row in select_image(rt.alloc(), &P, ABOVE_0)?.rows.iter() {
+        print_pair(rt, row)?;
+    }
+    println!(rt; "")?;
+    Ok(())
+}
+
+// The plan of that filter over a scan of P.
+fn print_plan(rt: &impl Print) -> anyhow::Result<()> {
+    let tree = Filter::new(Scan::new(Image::new(&P)?), ABOVE_0);
     let mut plan = [0u8; 11];
-    let _size = tree.write_plan(&mut plan);
-    let one = is_one_tree(&plan);
-    print!(rt; "plan of that filter, one tree {one}:")?;
-    print_bytes(rt, &plan)
+    tree.write_plan(&mut plan)?;
+    println!(rt;
+        "plan of that filter, one tree {}:{}",
+        is_one_tree(&plan),
+        HexBytes(&plan)
+    )?;
+    Ok(())
 }
 
 // The record of a scan of P after one row.
-fn print_record(rt: &HostRuntime) -> anyhow::Result<()> {
-    let Ok(image) = Image::new(&P) else {
-        return Err(anyhow!("refused"));
-    };
-    let mut scan = Scan::new(image);
-    let mut row = Row::EMPTY;
-    let _answer = scan.step(&mut row);
+fn print_record(rt: &impl Print) -> anyhow::Result<()> {
+    let mut scan = Scan::new(Image::new(&P)?);
+    scan.step();
     let mut record = [0u8; 4];
-    let _size = scan.save(&[], &mut record);
-    print!(rt; "record of a scan of P after one row:")?;
-    print_bytes(rt, &record)
+    scan.save(&[], &mut record)?;
+    println!(rt; "record of a scan of P after one row:{}", HexBytes(&record))?;
+    Ok(())
 }
 
 // What a scan of P does that takes up at a position.
-fn print_load(rt: &HostRuntime, position: u8) -> anyhow::Result<()> {
-    let Ok(image) = Image::new(&P) else {
-        return Err(anyhow!("refused"));
-    };
-    let mut scan = Scan::new(image);
-    let mut row = Row::EMPTY;
+fn print_load(rt: &impl Print, position: u8) -> anyhow::Result<()> {
+    let mut scan = Scan::new(Image::new(&P)?);
     print!(rt; "scan of P at position {position}:")?;
     if let Err(refusal) = scan.load(&[0, 2, 0, position]) {
-        return print_refusal(rt, refusal);
+        println!(rt; " {refusal}")?;
+        return Ok(());
     }
-    let answer = match scan.step(&mut row) {
-        Answer::Row => "row",
-        Answer::Busy => "busy",
-        Answer::End => "end",
-    };
-    println!(rt; " {answer}")?;
+    println!(rt; " {}", scan.step())?;
     Ok(())
 }
 

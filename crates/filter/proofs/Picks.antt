@@ -1,25 +1,16 @@
 -- A filter picks the passing rows. Assumes nothing.
-use Rattle.std.proofs.Common.{◌≡◌, ℕ, Bool, true, false, cond, List, [], ◌∷◌, ℤ, Decides, filter, refl, subst, w32, SFits}
-use Rattle.std.proofs.lemmas.Bool.Decides.{not_from_Decides}
+use Rattle.std.proofs.Common.{ℕ, List, ℤ, Decides, filter, subst, w32, SFits}
 use Rattle.codec.specs.declared.row.Row.{Row}
 use Rattle.codec.specs.Bytes.{cell_word, word_cell}
 use Rattle.codec.specs.Rows.{cell_at}
 use Rattle.codec.proofs.Laws.{cell_back}
 use Rattle.filter.specs.Condition.{Passes, holds}
 use Rattle.filter.specs.Filtering.{filtering, passes}
-use Rattle.filter.specs.Picks.{Picked, none, taken, left}
+use Rattle.codec.specs.Picks.{Picked}
+use Rattle.codec.proofs.Picks.{picked}
 use Rattle.filter.proofs.Conditions.{decides_holds}
 
--- what a test that decides a property keeps is what has it
-pub picked : (P : Row → Type 0) (p : Row → Bool) → ((x : Row) → Decides (p x) (P x)) → (xs : List Row) → Picked P xs (filter p xs)
-picked P p d [] = none
-picked P p d (x ∷ xs) = by (p x) refl (picked P p d xs)
-  where
-    by : (b : Bool) → p x ≡ b → Picked P xs (filter p xs) → Picked P (x ∷ xs) (cond b (x ∷ filter p xs) (filter p xs))
-    by true e h = taken ((d x).0 e) h
-    by false e h = left (not_from_Decides (p x) (d x) e) h
-
--- so what a filter keeps are the rows that pass against its constant
+-- what a filter keeps are the rows that pass against its constant
 pub picks : {C : Type 0} (child : C) (cell condition : ℕ) (constant : ℤ) (rows : List Row) → SFits w32 constant
     → Picked (λ x. Passes condition (cell_at x cell) constant) rows (filter (passes (filtering child cell condition (cell_word constant))) rows)
 picks child cell condition constant rows fit =

@@ -1,14 +1,13 @@
 -- The machine of a filter over its child's, and its meaning: the child's rows that pass, in order. Assumes nothing.
-use Rattle.std.specs.Prelude.{ℕ, ◌+◌, Bool, cond, List, [], ◌∷◌, ◌++◌, Some, None, filter, Option, nat_le}
+use Rattle.std.specs.Prelude.{ℕ, ◌+◌, Bool, cond, List, [], ◌∷◌, ◌++◌, Some, None, filter, Option}
 use Rattle.std.specs.Option.{option_map}
-use Rattle.refusal.specs.Numbers.{Fault, fault_at}
+use Rattle.refusal.specs.Numbers.{either}
 use Rattle.codec.specs.declared.row.Row.{Row}
-use Rattle.codec.specs.Bytes.{Word, word_bytes, word_cell}
+use Rattle.codec.specs.Bytes.{Word, word_bytes}
 use Rattle.codec.specs.Frames.{framed, body, then}
-use Rattle.codec.specs.Rows.{cell_at}
 use Rattle.operator.specs.Machine.{Machine, Move, row, busy, end}
 use Rattle.operator.specs.Laws.{Meaning}
-use Rattle.filter.specs.Condition.{holds, known}
+use Rattle.filter.specs.Condition.{passing, own_flaw}
 
 pub record Filtering (C : Type 0) : Type 0 where
   pub child : C
@@ -24,9 +23,6 @@ abbrev pub over : {C : Type 0} → Filtering C → C → Filtering C
 over s c = filtering c s.cell s.condition s.constant
 
 -- whether a row passes
-abbrev pub passing : ℕ → ℕ → Word → Row → Bool
-passing cell condition constant x = holds condition (cell_at x cell) (word_cell constant)
-
 abbrev pub passes : {C : Type 0} → Filtering C → Row → Bool
 passes s = passing s.cell s.condition s.constant
 
@@ -39,15 +35,6 @@ abbrev pub sifted : {C : Type 0} → Filtering C → Move C → Move (Filtering 
 sifted s (row x t) = cond (passes s x) (row x (over s t)) (busy (over s t))
 sifted s (busy t) = busy (over s t)
 sifted s end = end
-
--- the first fault of two
-abbrev pub either : Option Fault → Option Fault → Option Fault
-either None y = y
-either (Some x) y = Some x
-
--- the faults of the filter itself: a cell number not below the width, an unknown condition
-unfoldable pub own_flaw : ℕ → ℕ → ℕ → ℕ → Option Fault
-own_flaw width cell condition k = cond (nat_le width cell) (Some (fault_at 1 k)) (cond (known condition) None (Some (fault_at 3 k)))
 
 -- the rows to fetch again of a body, if there is one
 abbrev pub refetched : (List ℕ → ℕ) → Option (List ℕ) → ℕ

@@ -1,16 +1,14 @@
 -- The machine of a filter keeps its meaning if its child's does, and the code keeps to the machine. Assumes nothing.
-use Rattle.std.proofs.Common.{◌≡◌, ℕ, ◌+◌, ◌*◌, ◌<◌, ◌≤◌, Bool, true, false, cond, leb, List, ◌∷◌, ◌++◌, length, get_or, drop, replicate, ℤ, Some, None, Ok, Err, filter, Option, Result, sym, refl, ap, ◌∙◌, arith, w32, SFits}
+use Rattle.std.proofs.Common.{◌≡◌, ℕ, ◌+◌, ◌*◌, ◌≤◌, Bool, true, false, cond, List, ◌∷◌, ◌++◌, length, get_or, drop, replicate, Some, None, Ok, Err, filter, Option, Result, sym, refl, ap, ◌∙◌, arith}
 use Rattle.std.specs.Option.{option_map}
 use Rattle.std.proofs.ByRecursion.{all_kept_by}
 use Rattle.std.proofs.lemmas.List.{append-nil}
-use Rattle.std.proofs.lemmas.Bool.{cond-true, cond-false, le-leb, lt-leb}
+use Rattle.std.proofs.lemmas.Bool.{cond-true, cond-false}
 use Rattle.refusal.specs.declared.Refusal.{Refusal}
-use Rattle.refusal.specs.Numbers.{Fault, fault_at}
+use Rattle.refusal.specs.Numbers.{Fault, either}
 use Rattle.codec.specs.declared.row.Row.{Row}
-use Rattle.codec.specs.Bytes.{Word, word_bytes, cell_word}
-use Rattle.codec.specs.Rows.{cell_at}
+use Rattle.codec.specs.Bytes.{Word, word_bytes}
 use Rattle.codec.specs.Frames.{body, then}
-use Rattle.codec.proofs.Laws.{cell_back}
 use Rattle.codec.proofs.Frames.{body_framed, framed_length, framed_of2, body_length}
 use Rattle.plan.specs.Plans.{tree, none, plan_bytes}
 use Rattle.operator.specs.declared.answer.Answer.TheVariants as answer
@@ -18,33 +16,33 @@ use Rattle.operator.specs.Machine.{Machine, Move, Good, row, busy, end}
 use Rattle.operator.specs.Calls.{Moved, Loaded}
 use Rattle.operator.specs.Laws.{Meaning, Same, ByPlan, Alike, Meant, Read, Laws}
 use Rattle.operator.proofs.Steps.{carried}
-use Rattle.filter.specs.Condition.{holds, known}
-use Rattle.filter.specs.Filtering.{Filtering, filtering, over, passing, passes, head, sifted, either, own_flaw, refetched, filter_machine, filter_meaning}
+use Rattle.filter.specs.Condition.{passing, own_flaw}
+use Rattle.filter.specs.Filtering.{Filtering, filtering, over, passes, head, sifted, refetched, filter_machine, filter_meaning}
 
 -- what the code does: a step of the child makes a step of the filter
-pub passed : {C : Type 0} (s : Filtering C) (c c' : C) (mv : Move C) (x y z : Row) → passes s y ≡ true → Moved c mv x answer.Row c' y → Moved s (sifted s mv) z answer.Row (over s c') y
-passed s c c' (row w t) x y z p (e, f) =
+pub passed : {C : Type 0} (s : Filtering C) (c c' : C) (mv : Move C) (y : Row) → passes s y ≡ true → Moved c mv (answer.Row y) c' → Moved s (sifted s mv) (answer.Row y) (over s c')
+passed s c c' (row w t) y p (e, f) =
     let q : passes s w ≡ true = ap (passes s) (sym f) ∙ p in
     rw (cond-true (passes s w) (row w (over s t)) (busy (over s t)) q) (ap (over s) e, f)
-passed s c c' (busy t) x y z p h = absurd h
-passed s c c' end x y z p h = absurd h
+passed s c c' (busy t) y p h = absurd h
+passed s c c' end y p h = absurd h
 
-pub failed : {C : Type 0} (s : Filtering C) (c c' : C) (mv : Move C) (x y z : Row) → passes s y ≡ false → Moved c mv x answer.Row c' y → Moved s (sifted s mv) z answer.Busy (over s c') z
-failed s c c' (row w t) x y z p (e, f) =
+pub failed : {C : Type 0} (s : Filtering C) (c c' : C) (mv : Move C) (y : Row) → passes s y ≡ false → Moved c mv (answer.Row y) c' → Moved s (sifted s mv) answer.Busy (over s c')
+failed s c c' (row w t) y p (e, f) =
     let q : passes s w ≡ false = ap (passes s) (sym f) ∙ p in
-    rw (cond-false (passes s w) (row w (over s t)) (busy (over s t)) q) (ap (over s) e, refl)
-failed s c c' (busy t) x y z p h = absurd h
-failed s c c' end x y z p h = absurd h
+    rw (cond-false (passes s w) (row w (over s t)) (busy (over s t)) q) (ap (over s) e)
+failed s c c' (busy t) y p h = absurd h
+failed s c c' end y p h = absurd h
 
-pub waited : {C : Type 0} (s : Filtering C) (c' : C) (mv : Move C) (x y z : Row) → Moved s.child mv x answer.Busy c' y → Moved s (sifted s mv) z answer.Busy (over s c') z
-waited s c' (row w t) x y z h = absurd h
-waited s c' (busy t) x y z (e, f) = (ap (over s) e, refl)
-waited s c' end x y z h = absurd h
+pub waited : {C : Type 0} (s : Filtering C) (c' : C) (mv : Move C) → Moved s.child mv answer.Busy c' → Moved s (sifted s mv) answer.Busy (over s c')
+waited s c' (row w t) h = absurd h
+waited s c' (busy t) e = ap (over s) e
+waited s c' end h = absurd h
 
-pub ended : {C : Type 0} (s : Filtering C) (c' : C) (mv : Move C) (x y z : Row) → Moved s.child mv x answer.End c' y → Moved s (sifted s mv) z answer.End (over s c') z
-ended s c' (row w t) x y z h = absurd h
-ended s c' (busy t) x y z h = absurd h
-ended s c' end x y z (e, f) = (ap (over s) e, refl)
+pub ended : {C : Type 0} (s : Filtering C) (c' : C) (mv : Move C) → Moved s.child mv answer.End c' → Moved s (sifted s mv) answer.End (over s c')
+ended s c' (row w t) h = absurd h
+ended s c' (busy t) h = absurd h
+ended s c' end e = ap (over s) e
 
 pub loaded : {C : Type 0} (s : Filtering C) (b c' : C) (o : Option C) (r : Result (Unit {0}) Refusal) → Loaded b o r c' → Loaded (over s b) (option_map (over s) o) r (over s c')
 loaded s b c' None (Ok u) h = absurd h
@@ -52,26 +50,9 @@ loaded s b c' None (Err e) (n, f) = (n, ap (over s) f)
 loaded s b c' (Some t) (Ok u) f = ap (over s) f
 loaded s b c' (Some t) (Err e) h = absurd h
 
--- a row passes as the code tests it, with the constant that the filter was made with
-pub tested : {C : Type 0} (child : C) (cell condition : ℕ) (constant : ℤ) (y : Row) (b : Bool) → SFits w32 constant → holds condition (cell_at y cell) constant ≡ b → passes (filtering child cell condition (cell_word constant)) y ≡ b
-tested child cell condition constant y b f e = ap (holds condition (cell_at y cell)) (cell_back constant f) ∙ e
-
 -- the child has no fault, so the filter's own is the first
 pub own_first : (f : ℕ → Option Fault) (first next : ℕ) (x : Option Fault) → next ≡ first + 1 → None ≡ f next → either (f (first + 1)) x ≡ x
 own_first f first next x e n = ap (λ o. either o x) (ap f (sym e) ∙ sym n)
-
--- the faults of the filter itself
-pub misfit : (w cell condition k : ℕ) → w ≤ cell → own_flaw w cell condition k ≡ Some (fault_at 1 k)
-unfolding own_flaw
-misfit w cell condition k h = cond-true (leb w cell) _ _ (le-leb w cell h)
-
-pub odd : (w cell condition k : ℕ) → cell < w → known condition ≡ false → own_flaw w cell condition k ≡ Some (fault_at 3 k)
-unfolding own_flaw
-odd w cell condition k h e = cond-false (leb w cell) _ _ (lt-leb w cell h) ∙ cond-false (known condition) _ _ e
-
-pub flawless : (w cell condition k : ℕ) → cell < w → known condition ≡ true → own_flaw w cell condition k ≡ None
-unfolding own_flaw
-flawless w cell condition k h e = cond-false (leb w cell) _ _ (lt-leb w cell h) ∙ cond-true (known condition) _ _ e
 
 -- and what it means
 module _ {C : Type 0} (m : Machine C) (d : Meaning C) where

@@ -1,4 +1,3 @@
 pub mod Condition
 pub mod Filtering
-pub mod Picks
 pub mod Filters

@@ -4,48 +4,40 @@ ghost use Rattle.codec.specs.Bytes.{cell_word};
 ghost use Rattle.operator.specs.Machine.{New};
 ghost use Rattle.operator.specs.Laws.{meaning};
 ghost use Rattle.operator.specs.Of.{of};
+ghost use Rattle.codec.specs.Picks.{Picked};
 ghost use Rattle.codec.specs.Rows.{cell_at};
 ghost use Rattle.filter.specs.Condition.{Passes};
-ghost use Rattle.filter.specs.Picks.{Picked};
 ghost use Rattle.filter.specs.Filtering.{Filtering, filtering, filter_machine, filter_meaning};
 ghost use Rattle.filter.specs.Filters;
 
-use crate::condition::{is_condition, passes};
-use codec::{Row, body_of, frame_head, write_front};
+use crate::condition::Criterion;
+use codec::{body_of, frame_head, write_front};
 use operator::{Answer, Operator};
+use plan::Kind;
 use refusal::Refusal;
-
-const KIND: u8 = 2;
 
 #[derive(Drop)]
 pub struct Filter<C> {
     child: C,
-    cell: u8,
-    condition: u8,
-    constant: i32,
+    wanted: Criterion,
 }
 
 impl<C: Operator> Filter<C> {
     // A filter that stands where its child stands: over a new child, at its beginning. Its whole list is the child's rows
     // that pass, in order.
-    pub fn new(child: C, cell: u8, condition: u8, constant: i32) -> Filter<C>
-        ensures parts { (result.child ≡ child) × (result.cell ≡ cell) × (result.condition ≡ condition) × (result.constant ≡ constant) }
-        ensures fresh { New C.Operator.machine C.Operator.standing (C.Operator.state child) → New (filter_machine C.Operator.machine) (filter_meaning (of C.Operator)).standing (filtering (C.Operator.state child) cell condition (cell_word constant)) }
-        ensures whole { Picked (λ x. Passes condition (cell_at x cell) constant) (C.Operator.whole (C.Operator.state child)) ((filter_meaning (of C.Operator)).whole (filtering (C.Operator.state child) cell condition (cell_word constant))) }
+    pub fn new(child: C, wanted: Criterion) -> Filter<C>
+        ensures parts { (result.child ≡ child) × (result.wanted ≡ wanted) }
+        ensures fresh { New C.Operator.machine C.Operator.standing (C.Operator.state child) → New (filter_machine C.Operator.machine) (filter_meaning (of C.Operator)).standing (filtering (C.Operator.state child) wanted.cell wanted.condition (cell_word wanted.constant)) }
+        ensures whole { Picked (λ x. Passes wanted.condition (cell_at x wanted.cell) wanted.constant) (C.Operator.whole (C.Operator.state child)) ((filter_meaning (of C.Operator)).whole (filtering (C.Operator.state child) wanted.cell wanted.condition (cell_word wanted.constant))) }
     {
-        Filter {
-            child,
-            cell,
-            condition,
-            constant,
-        }
+        Filter { child, wanted }
     }
 }
 
 impl<C: Operator> Operator for Filter<C> {
     ghost State = { Filtering C.Operator.State };
 
-    ghost state = { λ f. filtering (C.Operator.state f.child) f.cell f.condition (cell_word f.constant) };
+    ghost state = { λ f. filtering (C.Operator.state f.child) f.wanted.cell f.wanted.condition (cell_word f.wanted.constant) };
 
     ghost machine = { filter_machine C.Operator.machine };
 
@@ -84,40 +76,26 @@ impl<C: Operator> Operator for Filter<C> {
             return Err(Refusal::Short);
         }
         let n = self.child.write_plan(&mut buffer[7..])?;
-        let [a, b, c, d] = self.constant.to_be_bytes();
-        let head = write_front(buffer, &[KIND, self.cell, self.condition, a, b, c, d])?;
+        let Criterion {
+            cell,
+            condition,
+            constant,
+        } = self.wanted;
+        let [a, b, c, d] = constant.to_be_bytes();
+        let kind = u8::from(Kind::Filter);
+        let head = write_front(buffer, &[kind, cell, condition, a, b, c, d])?;
         Ok(n.saturating_add(head))
     }
 
-    fn check(&self, first: usize) -> Option<Refusal> {
-        if let Some(refusal) = self.child.check(first.saturating_add(1)) {
-            return Some(refusal);
-        }
-        if usize::from(self.cell) >= self.child.width() {
-            return Some(Refusal::Misfit(first));
-        }
-        if !is_condition(char::from(self.condition)) {
-            return Some(Refusal::BadCondition(first));
-        }
-        None
+    fn check(&self, first: usize) -> Result<(), Refusal> {
+        self.child.check(first.saturating_add(1))?;
+        self.wanted.check(self.child.width(), first)
     }
 
-    fn step(&mut self, row: &mut Row) -> Answer {
-        let mut found = Row::EMPTY;
-        match self.child.step(&mut found) {
-            Answer::Row => {
-                if passes(
-                    char::from(self.condition),
-                    found.cell(self.cell),
-                    self.constant,
-                ) {
-                    *row = found;
-                    Answer::Row
-                } else {
-                    Answer::Busy
-                }
-            }
-            Answer::Busy => Answer::Busy,
+    fn step(&mut self) -> Answer {
+        match self.child.step() {
+            Answer::Row(row) if self.wanted.passes(&row) => Answer::Row(row),
+            Answer::Row(_) | Answer::Busy => Answer::Busy,
             Answer::End => Answer::End,
         }
     }
@@ -136,13 +114,11 @@ impl<C: Operator> Operator for Filter<C> {
     }
 
     fn load(&mut self, bytes: &[u8]) -> Result<(), Refusal> {
-        match body_of(bytes) {
-            Some(body) => self.child.load(body),
-            None => {
-                self.child.rewind();
-                Err(Refusal::Unreadable)
-            }
-        }
+        let Some(body) = body_of(bytes) else {
+            self.child.rewind();
+            return Err(Refusal::Unreadable);
+        };
+        self.child.load(body)
     }
 
     fn size(&self, choices: &[u8]) -> usize {
@@ -154,9 +130,6 @@ impl<C: Operator> Operator for Filter<C> {
     }
 
     fn refetch_of(&self, bytes: &[u8]) -> u32 {
-        match body_of(bytes) {
-            Some(body) => self.child.refetch_of(body),
-            None => 0,
-        }
+        body_of(bytes).map_or(0, |body| self.child.refetch_of(body))
     }
 }

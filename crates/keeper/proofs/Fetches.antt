@@ -134,29 +134,27 @@ module _ {S : Type 0} (m : Machine S) (d : Meaning S) (l : Laws m d) where
         subst On (sym h) on
 
     -- a turn of the loop: the child answered
-    pub row_turn : (t u : Taken S) (x : S) (b c : Row) (v : Move S) → On t → length t.rows < count → m.next t.child ≡ v → Meant m d t.child v → Moved t.child v c answer.Row x b → u ≡ with_row t b x → On u × (d.togo x < d.togo t.child)
-    row_turn t u x b c (row b' x') o lt e k (p, q) h =
+    pub row_turn : (t u : Taken S) (x : S) (b : Row) (v : Move S) → On t → length t.rows < count → m.next t.child ≡ v → Meant m d t.child v → Moved t.child v (answer.Row b) x → u ≡ with_row t b x → On u
+    row_turn t u x b (row b' x') o lt e k (p, q) h =
         let z : row b' x' ≡ row b x = cc in
-        let k' = subst (Meant m d t.child) z k in
-        (row_at o.fuel t u x b o.begins o.good lt o.enough o.left (e ∙ z) k' h, k'.3)
-    row_turn t u x b c (busy x') o lt e k f h = absurd f
-    row_turn t u x b c end o lt e k f h = absurd f
+        row_at o.fuel t u x b o.begins o.good lt o.enough o.left (e ∙ z) (subst (Meant m d t.child) z k) h
+    row_turn t u x b (busy x') o lt e k f h = absurd f
+    row_turn t u x b end o lt e k f h = absurd f
 
-    pub busy_turn : (t u : Taken S) (x : S) (b c : Row) (v : Move S) → On t → length t.rows < count → m.next t.child ≡ v → Meant m d t.child v → Moved t.child v c answer.Busy x b → u ≡ over t x → On u × (d.togo x < d.togo t.child)
-    busy_turn t u x b c (row b' x') o lt e k f h = absurd f
-    busy_turn t u x b c (busy x') o lt e k (p, q) h =
+    pub busy_turn : (t u : Taken S) (x : S) (v : Move S) → On t → length t.rows < count → m.next t.child ≡ v → Meant m d t.child v → Moved t.child v answer.Busy x → u ≡ over t x → On u
+    busy_turn t u x (row b' x') o lt e k f h = absurd f
+    busy_turn t u x (busy x') o lt e k p h =
         let z : busy x' ≡ busy x = cc in
-        let k' = subst (Meant m d t.child) z k in
-        (busy_at o.fuel t u x o.begins o.good lt o.enough o.left (e ∙ z) k' h, k'.3)
-    busy_turn t u x b c end o lt e k f h = absurd f
+        busy_at o.fuel t u x o.begins o.good lt o.enough o.left (e ∙ z) (subst (Meant m d t.child) z k) h
+    busy_turn t u x end o lt e k f h = absurd f
 
-    pub end_turn : (t u : Taken S) (x : S) (b c : Row) (v : Move S) (r : Refusal) → On t → length t.rows < count → m.next t.child ≡ v → Moved t.child v c answer.End x b → number r ≡ 10 → Restores all (Err r) u × (m.begin x ≡ first)
-    end_turn t u x b c (row b' x') r o lt e f n10 = absurd f
-    end_turn t u x b c (busy x') r o lt e f n10 = absurd f
-    end_turn t u x b c end r o lt e f n10 =
+    pub end_turn : (t u : Taken S) (x : S) (v : Move S) (r : Refusal) → On t → length t.rows < count → m.next t.child ≡ v → Moved t.child v answer.End x → number r ≡ 10 → Restores all (Err r) u × (m.begin x ≡ first)
+    end_turn t u x (row b' x') r o lt e f n10 = absurd f
+    end_turn t u x (busy x') r o lt e f n10 = absurd f
+    end_turn t u x end r o lt e f n10 =
         let n : count - length t.rows ≡ suc (count - length t.rows - 1) = omega arith in
         let z = o.left ∙ ap (λ (j : ℕ). fetch m.next o.fuel j t) n ∙ one_end o.fuel (count - length t.rows - 1) t e in
-        (subst (λ (v : Option (Taken S)). Restores v (Err r) u) (sym z) n10, ap m.begin f.0 ∙ o.begins)
+        (subst (λ (v : Option (Taken S)). Restores v (Err r) u) (sym z) n10, ap m.begin f ∙ o.begins)
 
     pub all_there : (t : Taken S) → On t → count ≤ length t.rows → Restores all (Ok tt) t
     all_there t o ge =

@@ -246,9 +246,9 @@ module _ {G S T : Type 0} (k : Kind G) (n : Sense G) (p : Proper k n) (o : Machi
   twos s =
       let a = o.keepers s.outer.child in
       let b = i.keepers s.inner in
-      let z : replicate (1 + (a + b)) 2 ≡ 2 ∷ replicate (a + b) 2 = ap (λ (j : ℕ). replicate j 2) (one-add (a + b)) in
-      let q : take a (replicate (a + b) 2) ≡ replicate a 2 = take-replicate a (a + b) 2 (omega arith) in
-      let u : drop a (replicate (a + b) 2) ≡ replicate b 2 = drop-replicate a (a + b) 2 ∙ ap (λ (j : ℕ). replicate j 2) (omega arith) in
+      let z : replicate {A = ℕ} (1 + (a + b)) 2 ≡ 2 ∷ replicate (a + b) 2 = ap (λ (j : ℕ). replicate {A = ℕ} j 2) (one-add (a + b)) in
+      let q : take a (replicate {A = ℕ} (a + b) 2) ≡ replicate a 2 = take-replicate {X = ℕ} a (a + b) 2 (omega arith) in
+      let u : drop a (replicate {A = ℕ} (a + b) 2) ≡ replicate b 2 = drop-replicate {X = ℕ} a (a + b) 2 ∙ ap (λ (j : ℕ). replicate {A = ℕ} j 2) (omega arith) in
       ap (fields k.phases o i s) z
       ∙ ap (λ (l : List ℕ). record { stage = s.stage; kept = kept_by true s.outer (o.saved s.outer.child l); tail = only (k.phases.scans s.stage) (i.saved s.inner (drop a (replicate (a + b) 2))) }) q
       ∙ ap (λ (l : List ℕ). record { stage = s.stage; kept = kept_by true s.outer (back_record o s.outer.child); tail = only (k.phases.scans s.stage) (i.saved s.inner l) }) u

@@ -59,8 +59,12 @@ module _ {S : Type 0} (m : Machine S) (steps : S → ℕ) (ro : List ℕ → Opt
   no_block (dumped rows outer) e = then_none _ _ e
   no_block (owed n contract) e = then_none _ _ e
 
-  pub refused_as : (k : Kept) (bytes : List ℕ) (e : Refusal) (u : Taken S) → kept_record k ≡ bytes → ro bytes ≡ None → number e ≡ 10 → Restores (rebuilt m steps ro k) (Err e) u
-  refused_as k bytes e u p q n = subst (λ (v : Option (Taken S)). Restores v (Err e) u) (sym (no_block k (ap ro p ∙ q))) n
+  -- a child that is refused: the block is refused with it
+  pub refused_as : (k : Kept) (bytes : List ℕ) (b t : S) (e f : Refusal) (r : Result (Unit {0}) Refusal) (u : Taken S) → kept_record k ≡ bytes → Loaded b (ro bytes) (Err e) t → r ≡ Err f → f ≡ e → Restores (rebuilt m steps ro k) r u
+  refused_as k bytes b t e f r u p h q n =
+      let w = loaded_err b t (ro bytes) e h in
+      let z : rebuilt m steps ro k ≡ None = no_block k (ap ro p ∙ w.0) in
+      rw (q, n, z) w.1
 
   pub dumped_as : (k : Kept) (rows : List Row) (bytes : List ℕ) (x : S) (u : Taken S) → k ≡ dumped rows bytes → ro bytes ≡ Some x → u ≡ taken rows None x → Restores (rebuilt m steps ro k) (Ok tt) u
   dumped_as k rows bytes x u p q e = subst (λ (v : Option (Taken S)). Restores v (Ok tt) u) (sym (ap (rebuilt m steps ro) p ∙ then_so _ _ x q)) e

@@ -5,4 +5,4 @@ mod outer;
 mod record;
 
 pub use outer::OuterBlock;
-pub use record::{load_or_rewind, write_plan_at, write_record_at};
+pub use record::{load_or_rewind, put_plan, put_record};

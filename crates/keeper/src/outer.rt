@@ -3,19 +3,21 @@ ghost use Rattle.std.specs.Prelude.{◌≡◌, ℕ, ◌<◌, ◌≤◌, [], leng
 ghost use Rattle.operator.specs.Machine.{Good};
 ghost use Rattle.operator.specs.Of.{of};
 ghost use Rattle.codec.specs.Frames.{Found};
-ghost use Rattle.block.specs.Places.{Puts};
-ghost use Rattle.block.specs.Kept.{kept_of, kept_count, kept_record};
-ghost use Rattle.keeper.specs.Taking.{taken, untaken, with_row, signing, way_back, form_by, fetch, rebuilt, refetch_kept};
+ghost use Rattle.block.specs.Places.{Put, SameBuffer};
+ghost use Rattle.block.specs.Kept.{form_number, kept_of, kept_count, kept_record};
+ghost use Rattle.block.specs.Held.{signed};
+ghost use Rattle.keeper.specs.Taking.{taken, untaken, with_row, back_record, signing, way_back, form_by, fetch, rebuilt, refetch_kept};
 ghost use Rattle.keeper.specs.Outer.{taken_of, Fine, kept_for, part_bytes, Loadable, Restores};
 
-use crate::record::write_record_at;
-use block::{BLOCK_ROWS, Block, CONTRACT_BYTES, Contract, Stored, write_at, write_rows_at};
+use crate::record::put_record;
+use block::{BLOCK_ROWS, Block, CONTRACT_BYTES, Choices, Contract, Form, GO_BACK, Stored, Writer};
 use codec::Row;
 use operator::{Answer, Operator};
 use plan::MAX_OPERATORS;
 use refusal::Refusal;
 
-// The rows taken from the child since a contract was signed with it, and the contract, if it is held.
+// The rows taken from the child since a contract was signed with it, and the contract, if it is held. Contracts see it by
+// `taken_of`: the value of a model could not speak of the child's own state.
 #[derive(Drop)]
 pub struct OuterBlock<O> {
     pub child: O,
@@ -43,18 +45,23 @@ impl<O: Operator> OuterBlock<O> {
         self.block.rows()
     }
 
+    // A contract with the child as it stands, if it is not too long.
+    fn contract_now(&self) -> Option<Contract>
+        ensures { Good O.Operator.machine O.Operator.standing (O.Operator.state self.now.child) → result ≡ signed (back_record O.Operator.machine (O.Operator.state self.now.child)) }
+    {
+        let choices = [GO_BACK; MAX_OPERATORS];
+        let keepers = self.child.keepers().min(MAX_OPERATORS);
+        let mut bytes = [0; CONTRACT_BYTES];
+        let used = self.child.save(&choices[..keepers], &mut bytes).ok()?;
+        Some(Contract::new(bytes, used))
+    }
+
     // Signs a contract before the first row; one that is too long is not held.
     pub fn sign(&mut self)
         ensures { Good O.Operator.machine O.Operator.standing (O.Operator.state self.old.child) → taken_of O.Operator self.new ≡ signing O.Operator.machine (O.Operator.state self.old.child) }
     {
-        let choices = [2; MAX_OPERATORS];
-        let keepers = self.child.keepers().min(MAX_OPERATORS);
-        let mut bytes = [0; CONTRACT_BYTES];
+        self.contract = self.contract_now();
         self.block.clear();
-        match self.child.save(&choices[..keepers], &mut bytes) {
-            Ok(used) => self.contract = Some(Contract::new(bytes, used)),
-            Err(_) => self.contract = None,
-        }
     }
 
     // One row more; a full block stays.
@@ -84,60 +91,57 @@ impl<O: Operator> OuterBlock<O> {
     fn way_back(&self, back: bool) -> Option<&[u8]>
         ensures { Found result (way_back back (taken_of O.Operator self.now).contract) }
     {
-        if !back {
-            return None;
-        }
-        match &self.contract {
-            Some(contract) => Some(contract.bytes()),
-            None => None,
+        let contract = self.contract.as_ref()?;
+        back.then_some(contract.bytes())
+    }
+
+    // The form in which the block is recorded: owed by a contract, or dumped with its rows.
+    pub fn form(&self, back: bool) -> Form
+        ensures { form_number result ≡ form_by back (taken_of O.Operator self.now).contract }
+    {
+        match self.way_back(back) {
+            Some(_) => Form::Owed,
+            None => Form::Dumped,
         }
     }
 
-    // The form in which the block is recorded: 2 by a contract, 1 by its rows.
-    pub fn form(&self, back: bool) -> u8
-        ensures { result ≡ form_by back (taken_of O.Operator self.now).contract }
+    // The length of the block's part of a record for a choice list.
+    pub fn part_size(&self, choices: Choices<'_>) -> usize
+        ensures { Fine O.Operator.machine (of O.Operator) (taken_of O.Operator self.now) → result ≡ length (part_bytes O.Operator.machine choices.entry.back choices.entry.outer.now (taken_of O.Operator self.now)) }
     {
-        match self.way_back(back) {
-            Some(_) => 2,
-            None => 1,
-        }
-    }
-
-    // The length of the block's part of a record, with the child's part of the choice list.
-    pub fn part_size(&self, back: bool, choices: &[u8]) -> usize
-        ensures { Fine O.Operator.machine (of O.Operator) (taken_of O.Operator self.now) → result ≡ length (part_bytes O.Operator.machine back choices.now (taken_of O.Operator self.now)) }
-    {
-        match self.way_back(back) {
+        match self.way_back(choices.back) {
             Some(contract) => contract.len(),
             None => {
                 let rows = self.rows().len() * (4 * self.child.width().min(8));
-                self.child.size(choices).saturating_add(rows)
+                self.child.size(choices.outer).saturating_add(rows)
             }
         }
     }
 
-    // Writes the block's part of a record from a place on, if it fits, and answers the place behind it.
-    pub fn write_part(&self, back: bool, choices: &[u8], buffer: &mut [u8], at: usize) -> usize
-        ensures { Fine O.Operator.machine (of O.Operator) (taken_of O.Operator self.now) → Puts at (part_bytes O.Operator.machine back choices.now (taken_of O.Operator self.now)) buffer.old buffer.new result }
+    // Puts the block's part of a record, if it fits.
+    pub fn put_part(&self, choices: Choices<'_>, writer: &mut Writer<'_>)
+        ensures same_buffer { SameBuffer writer.old writer.new }
+        ensures put { Fine O.Operator.machine (of O.Operator) (taken_of O.Operator self.now) → Put (part_bytes O.Operator.machine choices.entry.back choices.entry.outer.now (taken_of O.Operator self.now)) writer.old writer.new }
     {
-        match self.way_back(back) {
-            Some(contract) => write_at(buffer, at, contract),
+        match self.way_back(choices.back) {
+            Some(contract) => writer.put_bytes(contract),
             None => {
-                let behind = write_rows_at(buffer, at, self.child.width(), self.rows());
-                write_record_at(&self.child, choices, buffer, behind)
+                writer.put_rows(self.child.width(), self.rows());
+                put_record(&self.child, choices.outer, writer);
             }
         }
     }
 
     // The rows that a load of that part would fetch again.
-    pub fn refetch(&self, back: bool, choices: &[u8]) -> u32
-        ensures { Fine O.Operator.machine (of O.Operator) (taken_of O.Operator self.now) → result ≡ refetch_kept (O.Operator.machine.refetch (O.Operator.state self.now.child)) (kept_for O.Operator.machine back choices.now (taken_of O.Operator self.now)) }
+    pub fn refetch(&self, choices: Choices<'_>) -> u32
+        ensures { Fine O.Operator.machine (of O.Operator) (taken_of O.Operator self.now) → result ≡ refetch_kept (O.Operator.machine.refetch (O.Operator.state self.now.child)) (kept_for O.Operator.machine choices.entry.back choices.entry.outer.now (taken_of O.Operator self.now)) }
     {
-        match self.way_back(back) {
+        match self.way_back(choices.back) {
             Some(contract) => {
+                // A block has at most 16 rows, so the cast loses nothing; `try_from` would need a case for more.
                 (self.rows().len() as u32).saturating_add(self.child.refetch_of(contract))
             }
-            None => self.child.refetch(choices),
+            None => self.child.refetch(choices.outer),
         }
     }
 
@@ -148,6 +152,7 @@ impl<O: Operator> OuterBlock<O> {
         match stored {
             Stored::Dumped { outer, .. } => self.child.refetch_of(outer),
             Stored::Owed { count, contract } => {
+                // As above.
                 (count.min(BLOCK_ROWS) as u32).saturating_add(self.child.refetch_of(contract))
             }
         }
@@ -160,10 +165,9 @@ impl<O: Operator> OuterBlock<O> {
         ensures begins { O.Operator.machine.begin (O.Operator.state self.new.child) ≡ O.Operator.machine.begin (O.Operator.state self.old.child) }
     {
         self.block.clear();
-        let mut row = Row::EMPTY;
         while self.block.rows().len() < count {
-            match self.child.step(&mut row) {
-                Answer::Row => self.block.add(row),
+            match self.child.step() {
+                Answer::Row(row) => self.block.add(row),
                 Answer::Busy => {}
                 Answer::End => return Err(Refusal::Unreadable),
             }

@@ -2,41 +2,27 @@
 ghost use Rattle.std.specs.Prelude.{◌≡◌, ◌≤◌};
 ghost use Rattle.operator.specs.Machine.{Good};
 ghost use Rattle.operator.specs.Calls.{Loaded};
-ghost use Rattle.block.specs.Places.{Puts};
+ghost use Rattle.block.specs.Places.{Put, SameBuffer};
 ghost use Rattle.keeper.specs.Keeping.{inner_at};
 
+use block::Writer;
 use operator::Operator;
 use refusal::Refusal;
 
-// Writes the record of a child for a choice list from a place on, if it fits, and answers the place behind it.
-pub fn write_record_at<C: Operator>(
-    child: &C,
-    choices: &[u8],
-    buffer: &mut [u8],
-    at: usize,
-) -> usize
-    ensures { Good C.Operator.machine C.Operator.standing (C.Operator.state child.now) → Puts at (C.Operator.machine.saved (C.Operator.state child.now) choices.now) buffer.old buffer.new result }
+// Puts the record of a child for a choice list, if it fits.
+pub fn put_record<C: Operator>(child: &C, choices: &[u8], writer: &mut Writer<'_>)
+    ensures same_buffer { SameBuffer writer.old writer.new }
+    ensures put { Good C.Operator.machine C.Operator.standing (C.Operator.state child.now) → Put (C.Operator.machine.saved (C.Operator.state child.now) choices.now) writer.old writer.new }
 {
-    if at > buffer.len() {
-        return at;
-    }
-    match child.save(choices, &mut buffer[at..]) {
-        Ok(count) => at.saturating_add(count),
-        Err(_) => at,
-    }
+    writer.put(|front| child.save(choices, front));
 }
 
-// Writes the plan of a child likewise.
-pub fn write_plan_at<C: Operator>(child: &C, buffer: &mut [u8], at: usize) -> usize
-    ensures { C.Operator.machine.operators (C.Operator.state child.now) ≤ 16 → Puts at (C.Operator.machine.plan (C.Operator.state child.now)) buffer.old buffer.new result }
+// Puts the plan of a child, if it fits.
+pub fn put_plan<C: Operator>(child: &C, writer: &mut Writer<'_>)
+    ensures same_buffer { SameBuffer writer.old writer.new }
+    ensures put { C.Operator.machine.operators (C.Operator.state child.now) ≤ 16 → Put (C.Operator.machine.plan (C.Operator.state child.now)) writer.old writer.new }
 {
-    if at > buffer.len() {
-        return at;
-    }
-    match child.write_plan(&mut buffer[at..]) {
-        Ok(count) => at.saturating_add(count),
-        Err(_) => at,
-    }
+    writer.put(|front| child.write_plan(front));
 }
 
 // Loads a child from its record where one is written, else rewinds it. Refused, it still has its beginning.

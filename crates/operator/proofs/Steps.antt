@@ -1,6 +1,5 @@
 -- What lawful code does, in words of the meaning. Assumes nothing.
 use Rattle.std.proofs.Common.{◌≤◌, refl, ◌∙◌}
-use Rattle.codec.specs.declared.row.Row.{Row}
 use Rattle.operator.specs.declared.answer.Answer.{Answer}
 use Rattle.operator.specs.declared.answer.Answer.TheVariants as answer
 use Rattle.operator.specs.Machine.{Machine, Move, Good, row, busy, end}
@@ -18,20 +17,20 @@ module _ {S : Type 0} (m : Machine S) (d : Meaning S) (l : Laws m d) where
   pub carried : (s t : S) → m.operators s ≤ 16 → Same m s t → d.standing t → Good m d.standing t
   carried s t few same st = record { stands = st; few = rw (l.by_plan s t same.plan).operators few }
 
-  met : (s t : S) (mv : Move S) (x y : Row) (r : Answer) → Good m d.standing s → Meant m d s mv → Moved s mv x r t y → Good m d.standing t × Same m s t × Told m d s x r t y
-  met s t (row w u) x y answer.Row g (st, sa, re, to) (e, f) = rw (e, f) (carried s u g.few sa st, sa, (re, to))
-  met s t (row w u) x y answer.Busy g h k = absurd k
-  met s t (row w u) x y answer.End g h k = absurd k
-  met s t (busy u) x y answer.Row g h k = absurd k
-  met s t (busy u) x y answer.Busy g (st, sa, re, to) (e, f) = rw (e, f) (carried s u g.few sa st, sa, (re, to, refl))
-  met s t (busy u) x y answer.End g h k = absurd k
-  met s t end x y answer.Row g h k = absurd k
-  met s t end x y answer.Busy g h k = absurd k
-  met s t end x y answer.End g (re, to) (e, f) = rw (e, f) (g, same_self m s, (re, to, refl, refl))
+  met : (s t : S) (mv : Move S) (r : Answer) → Good m d.standing s → Meant m d s mv → Moved s mv r t → Good m d.standing t × Same m s t × Told m d s r t
+  met s t (row w u) (answer.Row y) g (st, sa, re, to) (e, f) = rw (e, f) (carried s u g.few sa st, sa, (re, to))
+  met s t (row w u) answer.Busy g h k = absurd k
+  met s t (row w u) answer.End g h k = absurd k
+  met s t (busy u) (answer.Row y) g h k = absurd k
+  met s t (busy u) answer.Busy g (st, sa, re, to) e = rw e (carried s u g.few sa st, sa, (re, to))
+  met s t (busy u) answer.End g h k = absurd k
+  met s t end (answer.Row y) g h k = absurd k
+  met s t end answer.Busy g h k = absurd k
+  met s t end answer.End g (re, to) e = rw e (g, same_self m s, (re, to, refl))
 
   -- a step
-  pub told : (s t : S) (x y : Row) (r : Answer) → Good m d.standing s → Moved s (m.next s) x r t y → Good m d.standing t × Same m s t × Told m d s x r t y
-  told s t x y r g k = met s t (m.next s) x y r g (l.moves s g) k
+  pub told : (s t : S) (r : Answer) → Good m d.standing s → Moved s (m.next s) r t → Good m d.standing t × Same m s t × Told m d s r t
+  told s t r g k = met s t (m.next s) r g (l.moves s g) k
 
   -- the beginning
   pub begun : (s : S) → m.operators s ≤ 16 → Good m d.standing (m.begin s)

@@ -105,7 +105,7 @@ module _ {S : Type 0} (m : Machine S) (d : Meaning S) where
     pub few : (s : S) (bytes : List ℕ) → m.refetch s bytes ≤ 16 * length bytes
 
   -- a step in words of the meaning
-  abbrev pub Told : S → Row → Answer → S → Row → Type 0
-  Told s before answer.Row t after = (d.rest s ≡ after ∷ d.rest t) × (d.togo t < d.togo s)
-  Told s before answer.Busy t after = (d.rest t ≡ d.rest s) × (d.togo t < d.togo s) × (after ≡ before)
-  Told s before answer.End t after = (d.rest s ≡ []) × (d.togo s ≡ 0) × (t ≡ s) × (after ≡ before)
+  abbrev pub Told : S → Answer → S → Type 0
+  Told s (answer.Row x) t = (d.rest s ≡ x ∷ d.rest t) × (d.togo t < d.togo s)
+  Told s answer.Busy t = (d.rest t ≡ d.rest s) × (d.togo t < d.togo s)
+  Told s answer.End t = (d.rest s ≡ []) × (d.togo s ≡ 0) × (t ≡ s)

@@ -2,3 +2,4 @@ pub mod Machine
 pub mod Calls
 pub mod Laws
 pub mod Of
+pub mod Words

@@ -7,7 +7,6 @@ ghost use Rattle.operator.specs.Calls.{Steps, Saves, Loads, Sizes, Owes, Measure
 ghost use Rattle.operator.specs.Laws.{Laws, meaning};
 
 use crate::answer::Answer;
-use codec::Row;
 use refusal::Refusal;
 
 pub trait Operator {
@@ -53,12 +52,12 @@ pub trait Operator {
         ensures { WritesPlan machine (state self.now) buffer.old buffer.new result };
 
     // The first fault in the tree, children before parents; the operator itself has the number `first`.
-    fn check(&self, first: usize) -> Option<Refusal>
+    fn check(&self, first: usize) -> Result<(), Refusal>
         ensures { Checks machine (state self.now) first result };
 
-    // One step; only a row answer changes the caller's row.
-    fn step(&mut self, row: &mut Row) -> Answer
-        ensures { Steps machine standing (state self.old) row.old result (state self.new) row.new };
+    // One step; a row is in its answer.
+    fn step(&mut self) -> Answer
+        ensures { Steps machine standing (state self.old) result (state self.new) };
 
     // Back to the beginning.
     fn rewind(&mut self)

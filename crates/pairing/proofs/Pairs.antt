@@ -3,8 +3,9 @@ use Rattle.std.proofs.Common.{◌≡◌, ℕ, zero, suc, ◌+◌, ◌≤◌, Boo
 use Rattle.std.proofs.lemmas.List.{take_at, drop_at, take_all, drop_all}
 use Rattle.std.proofs.lemmas.Bool.{cond-true, cond-false}
 use Rattle.codec.specs.declared.row.Row.{Row}
+use Rattle.pairing.specs.declared.pair.Hit.{Hit}
 use Rattle.pairing.specs.Terms.{match}
-use Rattle.pairing.specs.Pairs.{Pairing, Hit, row_joined, cut_up, blocks, matches, scanned, joined, scan_steps, block_steps, all_steps, first}
+use Rattle.pairing.specs.Pairs.{Pairing, row_joined, cut_up, blocks, matches, scanned, joined, scan_steps, block_steps, all_steps, first}
 
 pub scanned_more : (p : Pairing) (block : List Row) (x : Row) (xs : List Row) → scanned p block (x ∷ xs) ≡ matches p block x ++ scanned p block xs
 unfolding scanned

@@ -1,6 +1,7 @@
 -- The rows of a block join over lists of rows, and its steps. Assumes nothing.
-use Rattle.std.specs.Prelude.{◌≡◌, ℕ, zero, suc, ◌+◌, cond, List, [], ◌∷◌, ◌++◌, length, take, drop, Some, None, Option, nat_lt}
+use Rattle.std.specs.Prelude.{ℕ, zero, suc, ◌+◌, cond, List, [], ◌∷◌, ◌++◌, length, take, drop, Some, None, Option, nat_lt}
 use Rattle.codec.specs.declared.row.Row.{Row}
+use Rattle.pairing.specs.declared.pair.Hit.{Hit}
 use Rattle.pairing.specs.Terms.{Terms, match}
 
 -- what decides the rows of a join: the parameters, and the width of the outer rows
@@ -51,19 +52,7 @@ unfoldable pub all_steps : ℕ → Pairing → List (List Row) → List Row → 
 all_steps size p [] inner full = 0
 all_steps size p (block ∷ others) inner full = block_steps size p block inner full + all_steps size p others inner full
 
--- a match: the joined row, and the index behind it
-pub record Hit : Type 0 where
-  pub row : Row
-  pub next : ℕ
-
 -- the first match of an inner row among block rows, of which the first has the index k
 unfoldable pub first : Pairing → Row → ℕ → List Row → Option Hit
 first p x k [] = None
 first p x k (b ∷ bs) = cond (match p.terms b x) (Some (record { row = row_joined p.width b x; next = k + 1 })) (first p x (k + 1) bs)
-
--- the first match as code gives it: the row is filled, and the answer is the index behind it; without one the row stays
-abbrev pub Emits : Option Hit → Option ℕ → Row → Row → Type 0
-Emits None None row row' = row' ≡ row
-Emits None (Some k) row row' = ⊥
-Emits (Some h) None row row' = ⊥
-Emits (Some h) (Some k) row row' = (k ≡ h.next) × (row' ≡ h.row)

@@ -4,6 +4,7 @@ ghost use Rattle.pairing.specs.Condition.{Joins, known, within};
 ghost use Rattle.pairing.specs.Condition as Condition;
 
 // The outer against the inner cell; by an unknown condition nothing matches.
+#[tactic(auto, using(crate::proofs::Conditions::also, std::proofs::lemmas::Int::ints, codec::proofs::Cells::eqb_of_z), unfolding(crate::specs::Condition::joins))]
 pub fn joins(condition: char, band: i32, outer: i32, inner: i32) -> bool
     ensures { (result ≡ Condition.joins condition band outer inner) × Decides result (Joins condition band outer inner) }
 {
@@ -16,22 +17,17 @@ pub fn joins(condition: char, band: i32, outer: i32, inner: i32) -> bool
 }
 
 // Whether the exact difference is at most the band either way.
+#[tactic(auto, using(crate::proofs::Conditions::same_within, std::proofs::lemmas::Int::ints))]
 fn is_near(band: i32, outer: i32, inner: i32) -> bool
     ensures { result ≡ within band outer inner }
 {
-    let over = i64::from(outer) - i64::from(inner);
-    let under = i64::from(inner) - i64::from(outer);
-    over <= i64::from(band) && under <= i64::from(band)
+    i64::from(outer.abs_diff(inner)) <= i64::from(band)
 }
 
-// Whether there is such a condition.
+// Whether there is such a condition; its characters stand here, as a rule of the project has it.
+#[tactic(auto, unfolding(crate::specs::Condition::known))]
 pub fn is_join_condition(condition: char) -> bool
     ensures { result ≡ known condition }
 {
-    match condition {
-        '=' => true,
-        '<' => true,
-        '~' => true,
-        _ => false,
-    }
+    matches!(condition, '=' | '<' | '~')
 }

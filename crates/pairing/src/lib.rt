@@ -4,7 +4,9 @@
 mod condition;
 mod pair;
 mod rule;
+mod widths;
 
 pub use condition::{is_join_condition, joins};
-pub use pair::{joined_row, next_match};
+pub use pair::{Hit, joined_row, next_match};
 pub use rule::JoinRule;
+pub use widths::Widths;

@@ -4,24 +4,24 @@ ghost use Rattle.refusal.specs.Numbers.{faults};
 ghost use Rattle.pairing.specs.Terms.{Match, match, terms_of, block_size, misfits, bad_block, bad_condition, join_flaw};
 
 use crate::condition::{is_join_condition, joins};
+use crate::widths::Widths;
 use codec::Row;
 use refusal::Refusal;
 
 // The most rows of a block.
 const MOST_ROWS: u8 = 16;
 
-// The most cells of a row.
-const MOST_CELLS: usize = 8;
-
 // The condition that takes a band.
 const NEAR: u8 = b'~';
 
-// A block join's parameters, as its plan has them.
-#[derive(Clone, Copy)]
+// A block join's parameters, as its plan has them. Its fields are public, so contracts see it by `terms_of` and not by a
+// model.
+#[derive(Clone, Copy, PartialEq, Eq, Debug)]
 pub struct JoinRule {
     pub size: u8,
     pub outer_cell: u8,
     pub inner_cell: u8,
+    // a rule of the project: the byte of the plan, also where no condition has it
     pub condition: u8,
     pub band: i32,
 }
@@ -31,7 +31,7 @@ impl JoinRule {
     pub fn block_size(&self) -> usize
         ensures { result ≡ block_size (terms_of self.now) }
     {
-        usize::from(self.size.min(MOST_ROWS).max(1))
+        usize::from(self.size.clamp(1, MOST_ROWS))
     }
 
     // Whether an outer and an inner row match.
@@ -44,35 +44,35 @@ impl JoinRule {
     }
 
     // What is wrong with the join at a place in the plan, over children of these widths.
-    pub fn fault(&self, outer_width: usize, inner_width: usize, at: usize) -> Option<Refusal>
-        ensures { faults result ≡ join_flaw (terms_of self.now) outer_width inner_width at }
+    #[tactic(auto, unfolding(crate::specs::Terms::faulty))]
+    pub fn check(&self, widths: Widths, at: usize) -> Result<(), Refusal>
+        ensures { faults result ≡ join_flaw (terms_of self.now) widths.outer widths.inner at }
     {
-        if self.is_misfit(outer_width, inner_width) {
-            return Some(Refusal::Misfit(at));
+        if self.is_misfit(widths) {
+            Err(Refusal::Misfit(at))
+        } else if self.is_bad_block() {
+            Err(Refusal::BadBlock(at))
+        } else if self.is_bad_condition() {
+            Err(Refusal::BadCondition(at))
+        } else {
+            Ok(())
         }
-        if self.is_bad_block() {
-            return Some(Refusal::BadBlock(at));
-        }
-        if self.is_bad_condition() {
-            return Some(Refusal::BadCondition(at));
-        }
-        None
     }
 
     // A cell number is not below its width, or a joined row has too many cells.
-    fn is_misfit(&self, outer_width: usize, inner_width: usize) -> bool
-        ensures { result ≡ (misfits (terms_of self.now) outer_width inner_width || nat_lt 8 (outer_width + inner_width)) }
+    fn is_misfit(&self, widths: Widths) -> bool
+        ensures { result ≡ (misfits (terms_of self.now) widths.outer widths.inner || nat_lt 8 (widths.outer + widths.inner)) }
     {
-        usize::from(self.outer_cell) >= outer_width
-            || usize::from(self.inner_cell) >= inner_width
-            || outer_width.saturating_add(inner_width) > MOST_CELLS
+        usize::from(self.outer_cell) >= widths.outer
+            || usize::from(self.inner_cell) >= widths.inner
+            || widths.are_too_wide()
     }
 
     // The size of a block is out of range.
     fn is_bad_block(&self) -> bool
         ensures { result ≡ bad_block (terms_of self.now) }
     {
-        self.size == 0 || self.size > MOST_ROWS
+        !(1..=MOST_ROWS).contains(&self.size)
     }
 
     // The condition is unknown, or the band is negative or not asked for.

@@ -1,7 +1,7 @@
 -- Trees side by side, taken apart at the first operator and put together again. Assumes nothing.
-use Rattle.std.proofs.Common.{◌≡◌, ℕ, zero, suc, ◌+◌, ◌-◌, ◌<◌, ◌≤◌, false, List, [], ◌∷◌, ◌++◌, length, get_or, take, drop, Decides, sym, refl, ap, ◌∙◌, append_assoc, arith, length-append, length-drop}
+use Rattle.std.proofs.Common.{◌≡◌, ℕ, zero, suc, ◌+◌, ◌-◌, ◌<◌, ◌≤◌, false, List, [], ◌∷◌, ◌++◌, length, take, drop, Decides, sym, refl, ap, ◌∙◌, append_assoc, arith, length-append}
 use Rattle.std.proofs.lemmas.Bool.{false≢true}
-use Rattle.std.proofs.lemmas.List.{drop_at, drop-drop, drop_more, length-take-le, take-append-drop}
+use Rattle.std.proofs.lemmas.List.{drop_at, length-take-le, take-append-drop}
 use Rattle.plan.specs.Plans.{Trees, none, tree, count, Proper, plan_bytes, operators, keepers, kind_parameters, kind_children, kind_keepers, Exactly}
 
 -- two rows of trees as one
@@ -135,47 +135,3 @@ refused h = ((λ e. absurd (false≢true e)), λ p. absurd (h p))
 pub same : (n n' m m' q q' : ℕ) (bs bs' : List ℕ) → n ≡ n' → m ≡ m' → q ≡ q' → bs ≡ bs' → Exactly n m q bs → Exactly n' m' q' bs'
 same n n' m m' q q' bs bs' en em eq eb x =
     record { trees = x.trees; proper = x.proper; counted = x.counted ∙ en; written = x.written ∙ eb; few = omega (arith, x.few); kept = omega (arith, x.kept) }
-
-pub head : (bs : List ℕ) (at o m q : ℕ) → 0 < o → at < length bs → Exactly o m q (drop at bs) → First (get_or bs at 0) (o - 1) m q (drop (at + 1) bs)
-head bs at o m q p h x =
-    first (get_or bs at 0) (o - 1) m q (drop (at + 1) bs)
-    (same o (suc (o - 1)) m m q q (drop at bs) (get_or bs at 0 ∷ drop (at + 1) bs) (omega arith) refl refl (drop_more bs at 0 h) x)
-
-pub unhead : (bs : List ℕ) (at o m q : ℕ) → 0 < o → at < length bs → First (get_or bs at 0) (o - 1) m q (drop (at + 1) bs) → Exactly o m q (drop at bs)
-unhead bs at o m q p h x =
-    same (suc (o - 1)) o m m q q (get_or bs at 0 ∷ drop (at + 1) bs) (drop at bs) (omega arith) refl refl (sym (drop_more bs at 0 h))
-    (again (get_or bs at 0) (o - 1) m q (drop (at + 1) bs) x)
-
-pub few_children : (k : ℕ) → kind_children k ≤ 2
-few_children zero = omega arith
-few_children (suc zero) = omega arith
-few_children (suc (suc zero)) = omega arith
-few_children (suc (suc (suc zero))) = omega arith
-few_children (suc (suc (suc (suc k)))) = omega arith
-
--- one turn of the test: the state behind an operator, and back
-module _ (bs : List ℕ) (at o m q : ℕ) (some : 0 < o) (more : at < length bs) (operator : m < 16) (keeps : q ≤ 6) where
-  pub turn : Exactly o (16 - m) (6 - q) (drop at bs)
-      → Exactly (o - 1 + kind_children (get_or bs at 0)) (16 - (m + 1)) (6 - (q + kind_keepers (get_or bs at 0))) (drop (at + (1 + kind_parameters (get_or bs at 0))) bs)
-  turn x =
-      let k = get_or bs at 0 in
-      let f = head bs at o (16 - m) (6 - q) some more x in
-      same (kind_children k + (o - 1)) (o - 1 + kind_children k) (16 - m - 1) (16 - (m + 1)) (6 - q - kind_keepers k) (6 - (q + kind_keepers k))
-      (drop (kind_parameters k) (drop (at + 1) bs)) (drop (at + (1 + kind_parameters k)) bs)
-      (omega arith) (omega arith) (omega arith) (drop-drop (kind_parameters k) (at + 1) bs ∙ ap (λ n. drop n bs) (omega arith)) f.rest
-
-  pub unturn : 1 ≤ get_or bs at 0 → get_or bs at 0 < 4 → at + 1 + kind_parameters (get_or bs at 0) ≤ length bs → q + kind_keepers (get_or bs at 0) ≤ 6
-      → Exactly (o - 1 + kind_children (get_or bs at 0)) (16 - (m + 1)) (6 - (q + kind_keepers (get_or bs at 0))) (drop (at + (1 + kind_parameters (get_or bs at 0))) bs)
-      → Exactly o (16 - m) (6 - q) (drop at bs)
-  unturn lo hi room kept x =
-      let k = get_or bs at 0 in
-      unhead bs at o (16 - m) (6 - q) some more (record {
-        low = lo;
-        high = hi;
-        long = simp length-drop (omega arith);
-        some = omega arith;
-        kept = omega arith;
-        rest = same (o - 1 + kind_children k) (kind_children k + (o - 1)) (16 - (m + 1)) (16 - m - 1) (6 - (q + kind_keepers k)) (6 - q - kind_keepers k)
-            (drop (at + (1 + kind_parameters k)) bs) (drop (kind_parameters k) (drop (at + 1) bs))
-            (omega arith) (omega arith) (omega arith) (ap (λ n. drop n bs) (omega arith) ∙ sym (drop-drop (kind_parameters k) (at + 1) bs)) x;
-      })

@@ -1,9 +1,10 @@
 -- The test of plan bytes told as a function, and what one tree's bytes tell of it. Assumes nothing.
-use Rattle.std.proofs.Common.{◌≡◌, ℕ, zero, suc, ◌+◌, ◌-◌, ◌*◌, ◌≤◌, Bool, true, ◌&&◌, ltb, leb, List, [], ◌∷◌, ◌++◌, length, drop, Decides, sym, refl, ap, ◌∙◌, append_assoc, append-nil, arith, length-append}
+use Rattle.std.proofs.Common.{◌≡◌, ℕ, zero, suc, ◌+◌, ◌-◌, ◌*◌, ◌<◌, ◌≤◌, Bool, true, false, ◌&&◌, ◌==◌, ltb, leb, ◌⊎◌, inl, inr, List, [], ◌∷◌, ◌++◌, length, take, drop, Decides, sym, refl, ap, ◌∙◌, append_assoc, append-nil, arith, length-append}
 use Rattle.std.proofs.lemmas.Bool.Decides.{Decides-like, Decides-at, Decides-and, Decides-eqb, Decides-ltb, same_from_decides}
-use Rattle.std.proofs.lemmas.Bool.{leb-true, le-leb}
-use Rattle.std.proofs.lemmas.List.{drop_at}
-use Rattle.plan.specs.Plans.{kinds, Trees, none, tree, count, Proper, plan_bytes, operators, keepers, kind_parameters, kind_children, kind_keepers, Exactly, Planned, trees_told, one_tree}
+use Rattle.std.proofs.lemmas.Bool.{leb-true, le-leb, lt-ltb}
+use Rattle.std.proofs.lemmas.List.{drop_at, length-take-le, take-append-drop}
+use Rattle.plan.specs.declared.Shape.{Shape}
+use Rattle.plan.specs.Plans.{kinds, IsKind, kind_at, BeginsWith, Trees, none, tree, count, Proper, plan_bytes, operators, keepers, kind_parameters, kind_children, kind_keepers, Exactly, Planned, trees_told, one_tree}
 use Rattle.plan.proofs.Steps.{first, again, no_bytes, all_read, nothing_left, refused, same}
 
 decides_leb : (x y : ℕ) → Decides (leb x y) (x ≤ y)
@@ -37,9 +38,71 @@ told (suc m) (suc n) q (k ∷ bs) =
     (Decides-and _ _ (decides_leb 1 k) (Decides-and _ _ (Decides-ltb k (length kinds)) (Decides-and _ _ (decides_leb (kind_parameters k) (length bs))
     (Decides-and _ _ (decides_leb (kind_keepers k) q) (told m (kind_children k + n) (q - kind_keepers k) (drop (kind_parameters k) bs)))))))
 
--- what is decided is also computed
-pub also : (r : Bool) (bs : List ℕ) → Decides r (Exactly 1 16 6 bs) → Decides r (Exactly 1 16 6 bs) × (r ≡ one_tree bs)
-also r bs d = (d, same_from_decides r (one_tree bs) d (told 16 1 6 bs))
+-- what is computed is also decided
+pub also : (r : Bool) (bs : List ℕ) → r ≡ one_tree bs → Decides r (Exactly 1 16 6 bs) × (r ≡ one_tree bs)
+also r bs e = (Decides-at _ _ e (told 16 1 6 bs), e)
+
+-- one turn of the test: with no tree to come, with no operator first, with no room for it, and with room
+pub told_end : (m n q : ℕ) (bs : List ℕ) → n ≡ 0 → trees_told m n q bs ≡ (length bs == 0)
+unfolding trees_told
+told_end m zero q bs e = refl
+told_end m (suc n) q bs e = absurd (omega arith)
+
+-- what begins bytes that begin with an operator
+begins : (k : ℕ) (bs : List ℕ) → IsKind k → kind_parameters k ≤ length bs → BeginsWith (k ∷ bs) (kind_at k) (drop (kind_parameters k) bs)
+begins k bs known long = record {
+  number = k;
+  parameters = take (kind_parameters k) bs;
+  known = known;
+  is = refl;
+  whole = length-take-le (kind_parameters k) bs long;
+  written = ap (λ l. k ∷ l) (sym (take-append-drop (kind_parameters k) bs));
+}
+
+pub told_nothing : (m n q : ℕ) (bs : List ℕ) → 0 < n → ((shape : Shape) (rest : List ℕ) → BeginsWith bs shape rest → ⊥) → trees_told m n q bs ≡ false
+told_nothing m n q bs h o = same_from_decides _ false (told m n q bs) (refused (no n bs h o))
+  where
+    no : (n : ℕ) (bs : List ℕ) → 0 < n → ((shape : Shape) (rest : List ℕ) → BeginsWith bs shape rest → ⊥) → Exactly n m q bs → ⊥
+    no zero bs h o x = omega arith
+    no (suc n) [] h o x = no_bytes n m q x
+    no (suc n) (k ∷ bs) h o x = let f = first k n m q bs x in o (kind_at k) _ (begins k bs (f.low, f.high) f.long)
+
+pub told_full : (m n q : ℕ) (bs : List ℕ) (shape : Shape) (rest : List ℕ) → 0 < n → BeginsWith bs shape rest → (m ≡ 0) ⊎ (q < shape.keepers) → trees_told m n q bs ≡ false
+told_full m n q bs shape rest h b full = same_from_decides _ false (told m n q bs) (refused (λ x.
+    let f = first b.number (n - 1) m q (b.parameters ++ rest) (same _ _ _ _ _ _ _ _ (omega arith) refl refl b.written x) in
+    let e : shape.keepers ≡ kind_keepers b.number = ap (λ (s : Shape). s.keepers) b.is in
+    elim full [ inl z ↦ omega (arith, f.some) | inr z ↦ omega (arith, f.kept) ]))
+
+turn : (m n q k : ℕ) (ps rest : List ℕ) → IsKind k → length ps ≡ kind_parameters k → kind_keepers k ≤ q
+    → trees_told (suc m) (suc n) q (k ∷ (ps ++ rest)) ≡ trees_told m (kind_children k + n) (q - kind_keepers k) rest
+turn m n q k ps rest (low, high) whole room =
+    let long : kind_parameters k ≤ length (ps ++ rest) = omega (arith, length-append ps rest) in
+    told_more m n q k (ps ++ rest) ∙ rw (le-leb 1 k low, lt-ltb k (length kinds) high, le-leb (kind_parameters k) (length (ps ++ rest)) long, le-leb (kind_keepers k) q room, drop_at ps rest (kind_parameters k) whole)
+
+pub told_turn : (m n q : ℕ) (bs : List ℕ) (shape : Shape) (rest : List ℕ) → 0 < n → BeginsWith bs shape rest → 0 < m → shape.keepers ≤ q
+    → trees_told m n q bs ≡ trees_told (m - 1) (n - 1 + shape.children) (q - shape.keepers) rest
+told_turn zero n q bs shape rest h b some room = absurd (omega arith)
+told_turn (suc m) zero q bs shape rest h b some room = absurd (omega arith)
+told_turn (suc m) (suc n) q bs shape rest h b some room =
+    let p : shape.parameters ≡ kind_parameters b.number = ap (λ (s : Shape). s.parameters) b.is in
+    let e : shape.keepers ≡ kind_keepers b.number = ap (λ (s : Shape). s.keepers) b.is in
+    let d : shape.children ≡ kind_children b.number = ap (λ (s : Shape). s.children) b.is in
+    ap (trees_told (suc m) (suc n) q) b.written ∙ turn m n q b.number b.parameters rest b.known (b.whole ∙ p) (omega arith)
+    ∙ alike m (suc m - 1) _ (suc n - 1 + shape.children) _ (q - shape.keepers) rest (omega arith) (omega arith) (omega arith)
+  where
+    alike : (m m' n n' q q' : ℕ) (rest : List ℕ) → m ≡ m' → n ≡ n' → q ≡ q' → trees_told m n q rest ≡ trees_told m' n' q' rest
+    alike m m' n n' q q' rest a b c = rw (a, b, c)
+
+-- an operator has two children at most
+pub few_children : (bs : List ℕ) (shape : Shape) (rest : List ℕ) → BeginsWith bs shape rest → shape.children ≤ 2
+few_children bs shape rest b = let d : shape.children ≡ kind_children b.number = ap (λ (s : Shape). s.children) b.is in omega (arith, few b.number)
+  where
+    few : (k : ℕ) → kind_children k ≤ 2
+    few zero = omega arith
+    few (suc zero) = omega arith
+    few (suc (suc zero)) = omega arith
+    few (suc (suc (suc zero))) = omega arith
+    few (suc (suc (suc (suc k)))) = omega arith
 
 -- trees that stand first in bytes read to be trees are those that were read
 record Behind (f : Trees) (n m q : ℕ) (rest : List ℕ) : Type 0 where

@@ -1,26 +1,55 @@
 -- Plans as trees and as bytes, by the table of kinds. Assumes nothing.
-use Rattle.std.specs.Prelude.{◌≡◌, ℕ, zero, suc, ◌+◌, ◌-◌, ◌<◌, ◌≤◌, Bool, false, ◌&&◌, List, [], ◌∷◌, ◌++◌, length, drop, ◌==◌, nat_le, nat_lt, slice_index_or}
+use Rattle.std.specs.Prelude.{◌≡◌, ◌≢◌, ℕ, zero, suc, ◌+◌, ◌-◌, ◌<◌, ◌≤◌, Bool, false, ◌&&◌, List, [], ◌∷◌, ◌++◌, length, drop, ◌==◌, nat_le, nat_lt, slice_index_or, Result, MatchResult}
 use Rattle.plan.specs.declared.Kind.{Kind}
+use Rattle.plan.specs.declared.Kind.TheVariants as kind
+use Rattle.plan.specs.declared.UnknownKind.{UnknownKind}
+use Rattle.plan.specs.declared.Shape.{Shape}
+
+-- the number of a kind in a plan
+abbrev pub kind_number : Kind → ℕ
+kind_number kind.Scan = 1
+kind_number kind.Filter = 2
+kind_number kind.BlockJoin = 3
+
+-- the kind with this number, or an error with a number that no kind has
+abbrev pub KindOf : ℕ → Result Kind UnknownKind → Type 0
+KindOf number r = MatchResult r (λ kind. kind_number kind ≡ number) (λ e. (e.0 ≡ number) × ((kind : Kind) → kind_number kind ≢ number))
 
 -- the table of kinds, from 1: parameter bytes, children, and 1 for a keeper
-abbrev pub no_kind : Kind
+abbrev pub no_kind : Shape
 no_kind = record { parameters = 0; children = 0; keepers = 0 }
 
-abbrev pub kinds : List Kind
+abbrev pub kinds : List Shape
 kinds =
     no_kind
     ∷ record { parameters = 3; children = 0; keepers = 0 }
     ∷ record { parameters = 6; children = 1; keepers = 0 }
     ∷ record { parameters = 8; children = 2; keepers = 1 } ∷ []
 
+-- the numbers of the table, and the line of each
+abbrev pub IsKind : ℕ → Type 0
+IsKind k = (1 ≤ k) × (k < length kinds)
+
+abbrev pub kind_at : ℕ → Shape
+kind_at k = slice_index_or kinds k no_kind
+
 abbrev pub kind_parameters : ℕ → ℕ
-kind_parameters k = (slice_index_or kinds k no_kind).parameters
+kind_parameters k = (kind_at k).parameters
 
 abbrev pub kind_children : ℕ → ℕ
-kind_children k = (slice_index_or kinds k no_kind).children
+kind_children k = (kind_at k).children
 
 abbrev pub kind_keepers : ℕ → ℕ
-kind_keepers k = (slice_index_or kinds k no_kind).keepers
+kind_keepers k = (kind_at k).keepers
+
+-- bytes that begin with an operator of that shape: the number of its kind and its parameters, and the bytes behind them
+pub record BeginsWith (bs : List ℕ) (shape : Shape) (behind : List ℕ) : Type 0 where
+  pub number : ℕ
+  pub parameters : List ℕ
+  pub known : IsKind number
+  pub is : shape ≡ kind_at number
+  pub whole : length parameters ≡ shape.parameters
+  pub written : bs ≡ number ∷ (parameters ++ behind)
 
 -- plan trees side by side: a first tree, given by its kind, its parameters and its children, and the trees behind it
 pub data Trees : Type 0 where

@@ -1,5 +1,5 @@
 -- The number and the word of each refusal, and the operator that it names. Assumes nothing.
-use Rattle.std.specs.Prelude.{ℕ, List, Some, None, codes, Option}
+use Rattle.std.specs.Prelude.{ℕ, List, Some, None, Ok, Err, codes, Option, Result}
 use Rattle.refusal.specs.declared.Refusal.{Refusal}
 use Rattle.refusal.specs.declared.Refusal.TheVariants.{Misfit, BadBlock, BadCondition, Outsize, BadList, Short, Version, Torn, Stranger, Unreadable, NoFit, BadSource}
 
@@ -55,9 +55,10 @@ pub record Fault : Type 0 where
 abbrev pub fault : Refusal → Fault
 fault e = record { code = number e; at = operator e }
 
-abbrev pub faults : Option Refusal → Option Fault
-faults None = None
-faults (Some e) = Some (fault e)
+-- the fault that a check finds
+abbrev pub faults : Result (Unit {0}) Refusal → Option Fault
+faults (Ok u) = None
+faults (Err e) = Some (fault e)
 
 -- a fault of the operator k
 abbrev pub fault_at : ℕ → ℕ → Fault

@@ -4,6 +4,9 @@
 ghost use Rattle.std.specs.Prelude.{◌≡◌};
 ghost use Rattle.refusal.specs.Numbers.{number, operator, word};
 
+use std::error::Error;
+use std::fmt;
+
 // One case for each refusal; the first three name an operator by its place in the plan.
 #[derive(Clone, Copy, PartialEq, Eq, Debug)]
 pub enum Refusal {
@@ -22,7 +25,7 @@ pub enum Refusal {
 }
 
 impl Refusal {
-    // The number by which a controller reports it.
+    // The number by which a controller reports it; `u8::from` would not say which number.
     pub fn number(self) -> u8
         ensures { result ≡ number self }
     {
@@ -72,3 +75,22 @@ impl Refusal {
         }
     }
 }
+
+// Its number and word, and the operator that it names.
+impl fmt::Display for Refusal {
+    ghost use Rattle.std.specs.Prelude.{Some};
+    ghost use Rattle.refusal.specs.Texts.{text};
+
+    ghost output = { λ e. Some (text e) };
+
+    fn fmt<W: fmt::Write>(&self, f: &mut fmt::Formatter<W>) -> fmt::Result {
+        let number = self.number();
+        let word = self.word();
+        match self.operator() {
+            Some(at) => write!(f, "{number} {word}, operator {at}"),
+            None => write!(f, "{number} {word}"),
+        }
+    }
+}
+
+impl Error for Refusal {}

@@ -1,7 +1,7 @@
 -- The machine of a scan keeps its meaning, and the code keeps to the machine. Assumes nothing.
-use Rattle.std.specs.Prelude.{◌≡◌, ℕ, ◌+◌, ◌<◌, ◌≤◌, Bool, true, false, cond, List, [], ◌∷◌, length, drop, Some, None, Option, nat_le, slice_index, slice_index_or, refl}
+use Rattle.std.specs.Prelude.{◌≡◌, ℕ, zero, suc, ◌+◌, ◌≤◌, Bool, true, false, cond, List, [], ◌∷◌, length, drop, Some, None, Option, nat_le, slice_get, slice_index, refl}
 use Rattle.std.proofs.Common.{ap, sym, ◌∙◌, arith, length-drop}
-use Rattle.std.proofs.lemmas.List.{drop-drop, drop_more, drop_all, get_or_past}
+use Rattle.std.proofs.lemmas.List.{drop-drop}
 use Rattle.std.proofs.ByRecursion.{All-drop}
 use Rattle.std.proofs.lemmas.Bool.{cond-true, le-leb, leb-true}
 use Rattle.codec.specs.declared.row.Row.{Row}
@@ -17,13 +17,22 @@ use Rattle.operator.specs.Laws.{Same, ByPlan, Alike, Meant, Read, Laws}
 use Rattle.scan.specs.Scanning.{Scanning, at, taken, placed, rows_from, scan_machine, scan_meaning}
 
 -- what the code does
-pub stepped : (s : Scanning) (x y : Row) → s.position < length s.table.content → y ≡ slice_index_or s.table.content s.position x
-    → Moved s (taken s (drop s.position s.table.content)) x answer.Row (at s.table (s.position + 1)) y
-stepped s x y lt e = rw (drop_more s.table.content s.position x lt) (refl, e)
+stepped_at : (s : Scanning) (xs : Content) (p : ℕ) (y : Row) → Some y ≡ slice_get xs p → Moved s (taken s (drop p xs)) (answer.Row y) (at s.table (s.position + 1))
+stepped_at s [] p y e = absurd (let z : ◌≡◌ {A = ℕ} 0 1 = cc in omega arith)
+stepped_at s (x ∷ xs) zero y e = (refl, cc)
+stepped_at s (x ∷ xs) (suc p) y e = stepped_at s xs p y e
 
-pub stopped : (s : Scanning) (x y : Row) → length s.table.content ≤ s.position → y ≡ slice_index_or s.table.content s.position x
-    → Moved s (taken s (drop s.position s.table.content)) x answer.End s y
-stopped s x y le e = rw (drop_all s.position s.table.content le) (refl, e ∙ get_or_past s.table.content s.position x le)
+stopped_at : (s : Scanning) (xs : Content) (p : ℕ) → None ≡ slice_get xs p → Moved s (taken s (drop p xs)) answer.End s
+stopped_at s [] zero e = refl
+stopped_at s [] (suc p) e = refl
+stopped_at s (x ∷ xs) zero e = absurd (let z : ◌≡◌ {A = ℕ} 0 1 = cc in omega arith)
+stopped_at s (x ∷ xs) (suc p) e = stopped_at s xs p e
+
+pub stepped : (t : Table) (p : ℕ) (y : Row) → Some y ≡ slice_get t.content p → Moved (at t p) (taken (at t p) (drop p t.content)) (answer.Row y) (at t (p + 1))
+stepped t p y e = stepped_at (at t p) t.content p y e
+
+pub stopped : (t : Table) (p : ℕ) → None ≡ slice_get t.content p → Moved (at t p) (taken (at t p) (drop p t.content)) answer.End (at t p)
+stopped t p e = stopped_at (at t p) t.content p e
 
 -- and what that means
 same : (s : Scanning) (p : ℕ) → Same scan_machine s (at s.table p)

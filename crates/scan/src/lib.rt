@@ -7,12 +7,11 @@ ghost use Rattle.operator.specs.Machine.{New};
 ghost use Rattle.scan.specs.Scanning.{Scanning, at, scan_machine, scan_meaning};
 ghost use Rattle.scan.specs.Scans;
 
-use codec::{Row, body_of, write_front};
+use codec::{body_of, write_front};
 use operator::{Answer, Operator};
+use plan::Kind;
 use refusal::Refusal;
 use source::Source;
-
-const KIND: u8 = 1;
 
 #[derive(Drop)]
 pub struct Scan<S> {
@@ -36,10 +35,10 @@ impl<S: Source> Scan<S> {
 fn position_in(bytes: &[u8]) -> Option<u16>
     ensures { result ≡ then (body bytes.now) number }
 {
-    match body_of(bytes)? {
-        [hi, lo] => Some(u16::from_be_bytes([*hi, *lo])),
-        _ => None,
-    }
+    let [hi, lo] = body_of(bytes)? else {
+        return None;
+    };
+    Some(u16::from_be_bytes([*hi, *lo]))
 }
 
 impl<S: Source> Operator for Scan<S> {
@@ -81,20 +80,20 @@ impl<S: Source> Operator for Scan<S> {
 
     fn write_plan(&self, buffer: &mut [u8]) -> Result<usize, Refusal> {
         let [hi, lo] = self.source.count().to_be_bytes();
-        write_front(buffer, &[KIND, self.source.width(), hi, lo])
+        let kind = u8::from(Kind::Scan);
+        write_front(buffer, &[kind, self.source.width(), hi, lo])
     }
 
-    fn check(&self, first: usize) -> Option<Refusal> {
-        None
+    fn check(&self, first: usize) -> Result<(), Refusal> {
+        Ok(())
     }
 
-    fn step(&mut self, row: &mut Row) -> Answer {
-        if self.source.row(self.position, row) {
-            self.position += 1;
-            Answer::Row
-        } else {
-            Answer::End
-        }
+    fn step(&mut self) -> Answer {
+        let Some(row) = self.source.row(self.position) else {
+            return Answer::End;
+        };
+        self.position += 1;
+        Answer::Row(row)
     }
 
     fn rewind(&mut self) {
@@ -107,14 +106,16 @@ impl<S: Source> Operator for Scan<S> {
     }
 
     fn load(&mut self, bytes: &[u8]) -> Result<(), Refusal> {
-        if let Some(position) = position_in(bytes) {
-            if position <= self.source.count() {
+        match position_in(bytes) {
+            Some(position) if position <= self.source.count() => {
                 self.position = position;
-                return Ok(());
+                Ok(())
+            }
+            _ => {
+                self.position = 0;
+                Err(Refusal::Unreadable)
             }
         }
-        self.position = 0;
-        Err(Refusal::Unreadable)
     }
 
     fn size(&self, choices: &[u8]) -> usize {

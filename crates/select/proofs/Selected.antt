@@ -7,10 +7,12 @@ use Rattle.source.specs.Table.{Content, Table}
 use Rattle.source.proofs.Tables.{keeps}
 use Rattle.operator.specs.Machine.{Machine, row, busy, end}
 use Rattle.scan.specs.Scanning.{Scanning, at, taken, scan_machine, scan_meaning}
-use Rattle.filter.specs.Condition.{Passes}
-use Rattle.filter.specs.Picks.{Picked}
+use Rattle.filter.specs.Condition.{Passes, own_flaw}
+use Rattle.codec.specs.Picks.{Picked}
 use Rattle.filter.proofs.Picks.{picks}
-use Rattle.filter.specs.Filtering.{Filtering, filtering, over, passes, sifted, own_flaw, filter_machine, filter_meaning}
+use Rattle.filter.specs.Filtering.{Filtering, filtering, over, passes, sifted, filter_machine, filter_meaning}
+use Rattle.filter.specs.declared.condition.Criterion.{Criterion}
+use Rattle.select.specs.Selecting.{Wanted}
 use Rattle.run.specs.Runs.{Took, no_step, row_step, busy_step, Ran}
 
 abbrev machine : Machine (Filtering Scanning)
@@ -62,14 +64,11 @@ module _ (t : Table) (p cell condition : ℕ) (constant : ℤ) (u : Filtering Sc
   wanted fit = rw ran.all (picks (at t p) cell condition constant t.content fit)
 
 -- and the same of the parts that the filter was made of
-abbrev pub Facts : Table → ℕ → ℕ → ℤ → ℕ → ℕ → List Row → Type 0
-Facts t cell condition constant width steps rows =
-    (own_flaw t.width cell condition 0 ≡ None) × (width ≡ t.width) × (steps ≡ length t.content) × Picked (λ x. Passes condition (cell_at x cell) constant) t.content rows
+abbrev pub Facts : Table → Criterion → ℕ → ℕ → List Row → Type 0
+Facts t k width steps rows = (own_flaw t.width k.cell k.condition 0 ≡ None) × (width ≡ t.width) × (steps ≡ length t.content) × Picked (Wanted k) t.content rows
 
-pub facts_of : (t t' : Table) (a a' b b' : ℕ) (k k' : ℤ) (width steps : ℕ) (rows : List Row) → t' ≡ t → a' ≡ a → b' ≡ b → k' ≡ k → Facts t' a' b' k' width steps rows → Facts t a b k width steps rows
-facts_of t t' a a' b b' k k' width steps rows et ea eb ek f =
-    let T : Table → Type 0 = λ x. Facts x a b k width steps rows in
-    let A : ℕ → Type 0 = λ x. Facts t' x b k width steps rows in
-    let B : ℕ → Type 0 = λ x. Facts t' a' x k width steps rows in
-    let K : ℤ → Type 0 = λ x. Facts t' a' b' x width steps rows in
-    subst T et (subst A ea (subst B eb (subst K ek f)))
+pub facts_of : (t t' : Table) (k k' : Criterion) (width steps : ℕ) (rows : List Row) → t' ≡ t → k' ≡ k → Facts t' k' width steps rows → Facts t k width steps rows
+facts_of t t' k k' width steps rows p q f =
+    let T : Table → Type 0 = λ x. Facts x k width steps rows in
+    let K : Criterion → Type 0 = λ x. Facts t' x width steps rows in
+    subst T p (subst K q f)

@@ -6,9 +6,8 @@ use Rattle.codec.specs.Rows.{cell_at}
 use Rattle.source.specs.Table.{Table}
 use Rattle.source.specs.Images.{TableImage, image_table}
 use Rattle.source.specs.Ramps.{RampFits, ramp_table}
-use Rattle.filter.specs.Condition.{Passes}
-use Rattle.filter.specs.Picks.{Picked}
-use Rattle.filter.specs.Filtering.{own_flaw}
+use Rattle.filter.specs.Condition.{Passes, own_flaw}
+use Rattle.codec.specs.Picks.{Picked}
 use Rattle.run.specs.declared.Failure.{Failure}
 use Rattle.run.specs.declared.Failure.TheVariants.{Refused, NoMemory}
 use Rattle.filter.specs.declared.condition.Criterion.{Criterion}

@@ -6,7 +6,6 @@ ghost use Rattle.select.specs.Selecting.{Selects, SelectsImage, SelectsRamp};
 use codec::Row;
 use filter::{Criterion, Filter};
 use operator::Operator;
-use refusal::Refusal;
 use run::{Failure, Run, run_to_end};
 use scan::Scan;
 use source::{Image, Ramp, Slope, Source};
@@ -28,15 +27,8 @@ pub fn select_rows<S: Source + Drop>(
 ) -> Result<Selection, Failure>
     ensures { Selects (S.Source.table source) wanted result }
 {
-    let mut tree = Filter::new(
-        Scan::new(source),
-        wanted.cell,
-        wanted.condition,
-        wanted.constant,
-    );
-    if let Some(refusal) = tree.check(0) {
-        return Err(Failure::Refused(refusal));
-    }
+    let mut tree = Filter::new(Scan::new(source), wanted);
+    tree.check(0)?;
     let width = tree.width();
     let Run { rows, steps } = run_to_end(heap, &mut tree)?;
     Ok(Selection { width, rows, steps })
@@ -46,18 +38,12 @@ pub fn select_rows<S: Source + Drop>(
 pub fn select_image(heap: Global, bytes: &[u8], wanted: Criterion) -> Result<Selection, Failure>
     ensures { SelectsImage bytes.now wanted result }
 {
-    match Image::new(bytes) {
-        Ok(image) => select_rows(heap, image, wanted),
-        Err(refusal) => Err(Failure::Refused(refusal)),
-    }
+    select_rows(heap, Image::new(bytes)?, wanted)
 }
 
 // The passing rows of a ramp; one with a cell out of range is a bad source.
 pub fn select_ramp(heap: Global, slope: Slope, wanted: Criterion) -> Result<Selection, Failure>
     ensures { SelectsRamp slope.start slope.step slope.count wanted result }
 {
-    match Ramp::new(slope.start, slope.step, slope.count) {
-        Ok(ramp) => select_rows(heap, ramp, wanted),
-        Err(refusal) => Err(Failure::Refused(refusal)),
-    }
+    select_rows(heap, Ramp::new(slope)?, wanted)
 }

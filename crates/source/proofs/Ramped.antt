@@ -1,18 +1,20 @@
 -- Ramps mean their rows. Assumes nothing.
-use Rattle.std.proofs.Common.{◌≡◌, ℕ, zero, suc, ◌+◌, ◌-◌, ◌*◌, ◌^◌, ◌<◌, ◌≤◌, Bool, true, false, ltb, length, get_or, ℤ, pos, negsuc, ◌*ℤ◌, Decides, sym, refl, ap, ◌∙◌, subst, ⊎_elim, mul-le-mul_right, arith, w32, w64, SFits, to_z, of_z}
+use Rattle.std.proofs.Common.{◌≡◌, ℕ, zero, suc, ◌+◌, ◌-◌, ◌*◌, ◌^◌, ◌<◌, ◌≤◌, Bool, length, get_or, replicate, ◌∷◌, Some, ℤ, pos, negsuc, ◌+ℤ◌, ◌*ℤ◌, Decides, Ok, Err, Result, OkIff, is_ok, sym, refl, ap, ◌∙◌, subst, mul-le-mul_right, arith, w32, w64, SFits, to_z, of_z}
 use lib.IntN.{zero-*ℤ}
-use lib.Signed.{mag, le_z}
 use Rattle.std.specs.List.{range_with_len, AllByRecursion}
 use Rattle.std.proofs.lemmas.List.FromFn.{length-map-range_with_len, get_or-map-range_with_len}
-use Rattle.std.proofs.ByRecursion.{All-map, All-get_or}
+use Rattle.std.proofs.ByRecursion.{All-map}
 use Rattle.std.proofs.lemmas.Int.{ints, to_z-of_z}
-use Rattle.std.proofs.lemmas.Bool.Decides.{nat_tests, not_from_Decides, Decides-at, Decides-like, Decides-ltb}
-use Rattle.std.proofs.lemmas.Bool.{cases_Bool}
+use Rattle.std.proofs.lemmas.Option.{slice_get-get_or}
+use Rattle.std.specs.List.{slice_get}
 use Rattle.codec.specs.declared.row.Row.{Row}
 use Rattle.codec.specs.Rows.{Wide}
-use Rattle.source.specs.Table.{Sound, sound}
+use Rattle.source.specs.Table.{Sound}
 use Rattle.source.specs.Ramps.{ramp_cell, ramp_row, ramp_rows, RampFits, ramp_table}
-use Rattle.source.proofs.Tables.{decides_sound, table_width, table_content, table_broken}
+use Rattle.source.proofs.Tables.{table_width, table_content}
+
+widened : (z : ℤ) → SFits w32 z → SFits w64 z
+widened z f = omega (arith, ints, f.sfits)
 
 -- the product of a 16-bit and a 32-bit number
 pub product_fits : (i : ℕ) (s : ℤ) → i < 2 ^ 16 → SFits w32 s → SFits w64 (pos i *ℤ s)
@@ -86,24 +88,11 @@ ramp_sound a s n g = record {
   wide = All-map (Wide 2) (ramp_row a s) (range_with_len 0 n) (counted (λ i. Wide 2 (ramp_row a s i)) 0 n n (omega arith) (λ i h. row_wide a s i (omega (arith, g.few)) (g.inside i h)));
 }
 
-second : (a s : ℤ) (i : ℕ) → Wide 2 (ramp_row a s i) → SFits w32 (ramp_cell a s i)
-unfolding ramp_row
-second a s i h = h.cells.1.0
-
-sound_ramp : (a s : ℤ) (n : ℕ) → Sound 2 (ramp_rows a s n) → RampFits a s n
-sound_ramp a s n h = record {
-  few = omega (arith, h.few, length_ramp a s n);
-  inside = λ i lt. second a s i (rw (row_at a s n i (ramp_row a s i) lt) at (All-get_or (Wide 2) (ramp_rows a s n) i (ramp_row a s i) (rw (length_ramp a s n) lt) h.wide));
-}
-
 pub ramp_content : (a s : ℤ) (n : ℕ) → RampFits a s n → (ramp_table a s n).content ≡ ramp_rows a s n
 ramp_content a s n g = table_content 2 (ramp_rows a s n) (ramp_sound a s n g)
 
 pub ramp_length : (a s : ℤ) (n : ℕ) → RampFits a s n → length (ramp_table a s n).content ≡ n
 ramp_length a s n g = ap length (ramp_content a s n g) ∙ length_ramp a s n
-
-pub ramp_empty : (a s : ℤ) (n : ℕ) → (RampFits a s n → ⊥) → length (ramp_table a s n).content ≡ 0
-ramp_empty a s n h = ap length (table_broken 2 (ramp_rows a s n) (λ g. h (sound_ramp a s n g)))
 
 pub ramp_at : (a s : ℤ) (n i : ℕ) (d : Row) → RampFits a s n → i < n → get_or (ramp_table a s n).content i d ≡ ramp_row a s i
 ramp_at a s n i d g h = ap (λ l. get_or l i d) (ramp_content a s n g) ∙ row_at a s n i d h
@@ -111,40 +100,41 @@ ramp_at a s n i d g h = ap (λ l. get_or l i d) (ramp_content a s n g) ∙ row_a
 pub ramp_width : (a s : ℤ) (n : ℕ) → (ramp_table a s n).width ≡ 2
 ramp_width a s n = table_width 2 (ramp_rows a s n) (omega arith) (omega arith)
 
--- what the code asks of start and step, it asks of them as they are
-pub plain : (r : Bool) (a s : ℤ) (n : ℕ) → SFits w32 a → SFits w32 s → Decides r (RampFits (to_z w32 (of_z w32 a)) (to_z w32 (of_z w32 s)) n) → Decides r (RampFits a s n)
-plain r a s n f g d = simp to_z-of_z at d
+-- a cell as the code works it out, in 64 bits
+pub cell_is : (a s x y z : ℤ) (i : ℕ) → i < 2 ^ 16 → SFits w32 a → SFits w32 s → x ≡ to_z w32 (of_z w32 a) → y ≡ pos i → z ≡ to_z w32 (of_z w32 s)
+    → to_z w64 (of_z w64 (to_z w64 (of_z w64 x) +ℤ to_z w64 (of_z w64 (to_z w64 (of_z w64 y) *ℤ to_z w64 (of_z w64 z))))) ≡ ramp_cell a s i
+unfolding ramp_cell
+cell_is a s x y z i h f g p q r =
+    let ex : x ≡ a = p ∙ to_z-of_z w32 a f in
+    let ez : z ≡ s = r ∙ to_z-of_z w32 s g in
+    let fa : SFits w64 a = widened a f in
+    let fs : SFits w64 s = widened s g in
+    let fi : to_z w64 (of_z w64 (pos i)) ≡ pos i = to_z-of_z w64 (pos i) (omega (arith, ints)) in
+    let fp : SFits w64 (pos i *ℤ s) = product_fits i s h g in
+    let ft : SFits w64 (a +ℤ (pos i *ℤ s)) = sum_fits a s i h f g in
+    rw (ex, q, ez, fi, to_z-of_z w64 a fa, to_z-of_z w64 s fs, to_z-of_z w64 _ fp, to_z-of_z w64 _ ft) refl
 
--- the last cell, by both of its bounds
-top : (z : ℤ) → le_z (negsuc 2147483647) z ≡ true → le_z z (pos 2147483647) ≡ ltb (mag z) 2147483648
-top (pos n) h = grind (arith, nat_tests)
-top (negsuc n) h = grind (arith, nat_tests)
+by_result : {E : Type 0} {A B : Type 0} (v : ℤ) (b : Bool) (r : Result ℤ E) → OkIff r A v → b ≡ is_ok r → (A → B) → (B → A) → Decides b B
+by_result v b (Ok x) h e f g = ((λ t. f h.0), λ t. e)
+by_result v b (Err x) h e f g = ((λ t. absurd (let z : ◌≡◌ {A = ℕ} 0 1 = cc in omega arith)), λ t. absurd (h (g t)))
 
-bottom : (z : ℤ) → le_z (negsuc 2147483647) z ≡ false → le_z (negsuc 2147483647) z ≡ ltb (mag z) 2147483648
-bottom (pos n) h = grind (arith, nat_tests)
-bottom (negsuc n) h = grind (arith, nat_tests)
+-- whether the last cell is one decides
+pub fits_by_last : {E : Type 0} (a s x z v : ℤ) (n k : ℕ) (b : Bool) (r : Result ℤ E) → SFits w32 a → n ≤ 4096 → SFits w64 x → k ≡ n - 1 → x ≡ ramp_cell a s k → z ≡ to_z w64 (of_z w64 x) → OkIff r (SFits w32 z) v → b ≡ is_ok r
+    → Decides b (RampFits a s n)
+fits_by_last a s x z v n k b r f few fx p q t h e =
+    let y : z ≡ ramp_cell a s (n - 1) = t ∙ to_z-of_z w64 x fx ∙ q ∙ ap (ramp_cell a s) p in
+    let P : ℤ → Type 0 = λ m. SFits w32 m in
+    by_result v b r h e (λ g. by_last a s n f few (subst P y g)) (λ g. subst P (sym y) (last_fits a s n f g))
 
-by_cell : (a s z : ℤ) (n : ℕ) (t : Bool) → SFits w32 a → n ≤ 4096 → z ≡ ramp_cell a s (n - 1) → t ≡ ltb (mag z) 2147483648 → Decides t (RampFits a s n)
-by_cell a s z n t f few e q =
-    Decides-at t (ltb (mag z) 2147483648) q
-    (Decides-like (ltb (mag z) 2147483648)
-    (λ (lt : mag z < 2147483648). by_last a s n f few (let P : ℤ → Type 0 = λ x. SFits w32 x in subst P e (record { sfits = lt })))
-    (λ g. let h : SFits w32 z = (let P : ℤ → Type 0 = λ x. SFits w32 x in subst P (sym e) (last_fits a s n f g)) in h.sfits)
-    (Decides-ltb (mag z) 2147483648))
-
--- the cell as the code has it
-pub last_is : (a s r : ℤ) (k n : ℕ) → SFits w32 a → SFits w32 s → mag r < 9223372036854775808 → r ≡ ramp_cell (to_z w32 (of_z w32 a)) (to_z w32 (of_z w32 s)) k → k ≡ n - 1
-    → to_z w64 (of_z w64 r) ≡ ramp_cell a s (n - 1)
-last_is a s r k n f g l e h = to_z-of_z w64 r (record { sfits = l }) ∙ simp to_z-of_z at e ∙ ap (ramp_cell a s) h
-
-pub high_enough : (a s z : ℤ) (n : ℕ) → SFits w32 a → n ≤ 4096 → z ≡ ramp_cell a s (n - 1) → le_z (negsuc 2147483647) z ≡ true → Decides (le_z z (pos 2147483647)) (RampFits a s n)
-high_enough a s z n f few e h = by_cell a s z n (le_z z (pos 2147483647)) f few e (top z h)
-
-pub too_low : (a s z : ℤ) (n : ℕ) → SFits w32 a → n ≤ 4096 → z ≡ ramp_cell a s (n - 1) → le_z (negsuc 2147483647) z ≡ false → Decides (le_z (negsuc 2147483647) z) (RampFits a s n)
-too_low a s z n f few e h = by_cell a s z n (le_z (negsuc 2147483647) z) f few e (bottom z h)
-
-pub ramp_most : (a s : ℤ) (n : ℕ) → length (ramp_table a s n).content ≤ n
-ramp_most a s n =
-    ⊎_elim (λ t. omega (arith, ramp_length a s n (sound_ramp a s n ((decides_sound 2 (ramp_rows a s n)).0 t))))
-    (λ f. omega (arith, ramp_empty a s n (λ g. not_from_Decides (sound 2 (ramp_rows a s n)) (decides_sound 2 (ramp_rows a s n)) f (ramp_sound a s n g))))
-    (cases_Bool (sound 2 (ramp_rows a s n)))
+-- row i as the code works it out
+pub ramp_read : (a s x y : ℤ) (n i : ℕ) → RampFits a s n → i < n → i < 65536 → x ≡ pos i → SFits w64 y → y ≡ ramp_cell a s i
+    → Some (record { cells = to_z w32 (of_z w32 x) ∷ to_z w32 (of_z w32 (to_z w64 (of_z w64 y))) ∷ replicate 6 (pos 0) }) ≡ slice_get (ramp_table a s n).content i
+unfolding ramp_row
+ramp_read a s x y n i g h k p fy q =
+    let d : Row = ramp_row a s i in
+    let fi : to_z w32 (of_z w32 x) ≡ pos i = ap (λ m. to_z w32 (of_z w32 m)) p ∙ to_z-of_z w32 (pos i) (omega (arith, ints)) in
+    let fc : to_z w32 (of_z w32 (to_z w64 (of_z w64 y))) ≡ ramp_cell a s i =
+    ap (λ m. to_z w32 (of_z w32 m)) (to_z-of_z w64 y fy ∙ q) ∙ to_z-of_z w32 (ramp_cell a s i) (g.inside i h) in
+    ap (λ m. Some (record { cells = m ∷ to_z w32 (of_z w32 (to_z w64 (of_z w64 y))) ∷ replicate 6 (pos 0) })) fi
+    ∙ ap (λ m. Some (record { cells = pos i ∷ m ∷ replicate 6 (pos 0) })) fc
+    ∙ ap Some (sym (ramp_at a s n i d g h)) ∙ sym (slice_get-get_or (ramp_table a s n).content i d (omega (arith, h, ramp_length a s n g)))

@@ -1,10 +1,7 @@
 -- Table images: version byte 1, count (2 bytes), width (1), then the rows, and nothing more. Assumes nothing.
-use Rattle.std.specs.Prelude.{◌≡◌, ℕ, ◌+◌, ◌*◌, ◌≤◌, Bool, cond, ◌&&◌, List, length, drop, Ok, Err, Result, ◌==◌, nat_le, slice_index, slice_index_or}
-use Rattle.refusal.specs.declared.Refusal.{Refusal}
-use Rattle.refusal.specs.Numbers.{number}
+use Rattle.std.specs.Prelude.{◌≡◌, ℕ, ◌+◌, ◌*◌, ◌≤◌, Bool, cond, ◌&&◌, List, length, drop, ◌==◌, nat_le, slice_index, slice_index_or}
 use Rattle.codec.specs.Bytes.{of2}
 use Rattle.codec.specs.Rows.{rows_of}
-use Rattle.source.specs.declared.image.Image.{Image}
 use Rattle.source.specs.Table.{Content, Table, table_of, no_rows}
 
 -- the count and the width that the bytes name
@@ -35,9 +32,3 @@ is_image bs =
 -- the meaning of the bytes
 unfoldable pub image_table : List ℕ → Table
 image_table bs = cond (is_image bs) (table_of (named_width bs) (named_rows bs)) (no_rows 1)
-
--- exactly the table images are accepted, and mean the rows in their bytes; all else is a bad source
-abbrev pub MakesImage : List ℕ → Result Image Refusal → Type 0
-MakesImage bs (Ok m) =
-    TableImage bs × (m.bytes.now ≡ bs) × ((image_table bs).width ≡ named_width bs) × ((image_table bs).content ≡ named_rows bs)
-MakesImage bs (Err e) = (TableImage bs → ⊥) × (number e ≡ 12)

@@ -1,3 +1,4 @@
 pub mod Table
 pub mod Images
 pub mod Ramps
+pub mod Makes

@@ -1,11 +1,8 @@
 -- Ramps: width 2, and row i is (i, start + i × step). Assumes nothing.
-use Rattle.std.specs.Prelude.{◌≡◌, ℕ, ◌<◌, ◌≤◌, ◌∷◌, map, replicate, ℤ, pos, ◌+ℤ◌, ◌*ℤ◌, Ok, Err, Result, FitsSigned}
+use Rattle.std.specs.Prelude.{ℕ, ◌<◌, ◌≤◌, ◌∷◌, map, replicate, ℤ, pos, ◌+ℤ◌, ◌*ℤ◌, FitsSigned}
 use Rattle.std.specs.Int.{w32}
 use Rattle.std.specs.List.{range_with_len}
-use Rattle.refusal.specs.declared.Refusal.{Refusal}
-use Rattle.refusal.specs.Numbers.{number}
 use Rattle.codec.specs.declared.row.Row.{Row}
-use Rattle.source.specs.declared.ramp.Ramp.{Ramp}
 use Rattle.source.specs.Table.{Content, Table, table_of}
 
 -- the second cell of row i
@@ -26,9 +23,3 @@ pub record RampFits (start step : ℤ) (count : ℕ) : Type 0 where
 -- the meaning of a ramp
 abbrev pub ramp_table : ℤ → ℤ → ℕ → Table
 ramp_table start step count = table_of 2 (ramp_rows start step count)
-
--- exactly the ramps that keep the rule are accepted, and mean their rows; all else is a bad source
-abbrev pub MakesRamp : ℤ → ℤ → ℕ → Result Ramp Refusal → Type 0
-MakesRamp start step count (Ok m) =
-    RampFits start step count × (m.start ≡ start) × (m.step ≡ step) × (m.count ≡ count) × ((ramp_table start step count).content ≡ ramp_rows start step count)
-MakesRamp start step count (Err e) = (RampFits start step count → ⊥) × (number e ≡ 12)

@@ -1,5 +1,5 @@
 // What every source answers; a scan never learns which one it has.
-ghost use Rattle.std.specs.Prelude.{◌≡◌, ℕ, length, nat_lt, slice_index_or};
+ghost use Rattle.std.specs.Prelude.{◌≡◌, length, slice_get};
 ghost use Rattle.source.specs.Table.{Table};
 
 use codec::Row;
@@ -14,8 +14,7 @@ pub trait Source {
     fn count(&self) -> u16
         ensures { result ≡ length (table self.now).content };
 
-    // Fills the caller's row with row i, counted from 0; from the count on answers false, and the row stays.
-    fn row(&self, i: u16, row: &mut Row) -> bool
-        ensures found { result ≡ nat_lt i (length (table self.now).content) }
-        ensures row { row.new ≡ slice_index_or (table self.now).content i row.old };
+    // Row i, counted from 0; none from the count on.
+    fn row(&self, i: u16) -> Option<Row>
+        ensures { result ≡ slice_get (table self.now).content i };
 }

@@ -1,21 +1,16 @@
 // Table images: which bytes are one, and which rows they hold.
-use crate::found::{MAX, MIN, NONE, rows_at};
+use crate::found::{rows_at, verdict};
+use codec::Row;
 use refusal::Refusal;
 use source::{Image, Source};
 use std::alloc::{AllocError, Global};
 use std::test::Fail;
 
-// The number of the refusal, or 0 for an image.
-fn verdict(bytes: &[u8]) -> u8 {
-    match Image::new(bytes) {
-        Ok(_) => 0,
-        Err(refusal) => refusal.number(),
-    }
-}
-
 // A row of one cell.
-fn single(cell: i32) -> (bool, [i32; 8]) {
-    (true, [cell, 0, 0, 0, 0, 0, 0, 0])
+fn single(cell: i32) -> Option<Row> {
+    Some(Row {
+        cells: [cell, 0, 0, 0, 0, 0, 0, 0],
+    })
 }
 
 // An image of width 1 whose row i holds i.
@@ -51,7 +46,7 @@ fn other_bytes_are_refused(rt: HostRuntime) {
         &[1, 0, 1, 2, 0, 0, 0, 5],
     ];
     for bytes in others {
-        assert_eq!(rt; verdict(bytes), 12);
+        assert_eq!(rt; verdict(Image::new(bytes)), 12);
     }
     assert_eq!(rt; Refusal::BadSource.word(), "bad source");
 }
@@ -60,7 +55,7 @@ fn other_bytes_are_refused(rt: HostRuntime) {
 fn images_of_no_rows(rt: HostRuntime) -> Result<(), Fail> {
     let image = Image::new(&[1, 0, 0, 2])?;
     let rows = rows_at(&image, [0, 1, 65535]);
-    assert_eq!(rt; (image.width(), image.count(), rows), (2, 0, [NONE; 3]));
+    assert_eq!(rt; (image.width(), image.count(), rows), (2, 0, [None; 3]));
     Ok(())
 }
 
@@ -71,9 +66,9 @@ fn cells_of_both_signs(rt: HostRuntime) -> Result<(), Fail> {
         0xFF, 0x38,
     ];
     let image = Image::new(&bytes)?;
-    let first = [single(MIN), single(MAX), single(-1)];
+    let first = [single(i32::MIN), single(i32::MAX), single(-1)];
     assert_eq!(rt; rows_at(&image, [0, 1, 2]), first);
-    let last = [single(-200), NONE, NONE];
+    let last = [single(-200), None, None];
     assert_eq!(rt; rows_at(&image, [3, 4, 65535]), last);
     Ok(())
 }
@@ -85,15 +80,24 @@ fn eight_cells_at_most(rt: HostRuntime) -> Result<(), Fail> {
         0, 7, 255, 255, 255, 248,
     ];
     let image = Image::new(&bytes)?;
-    let cells = (true, [1, 256, 65536, 16777216, 5, 6, 7, -8]);
-    assert_eq!(rt; rows_at(&image, [0, 0, 1]), [cells, cells, NONE]);
+    let cells = Some(Row {
+        cells: [1, 256, 65536, 16777216, 5, 6, 7, -8],
+    });
+    assert_eq!(rt; rows_at(&image, [0, 0, 1]), [cells, cells, None]);
     let mut long = [0; 40];
     long[0] = 1;
     long[2] = 1;
     long[3] = 9;
-    let nine = verdict(&long);
+    let nine = verdict(Image::new(&long));
     long[3] = 8;
-    assert_eq!(rt; [nine, verdict(&long), verdict(&long[0..36])], [12, 12, 0]);
+    assert_eq!(rt;
+        [
+            nine,
+            verdict(Image::new(&long)),
+            verdict(Image::new(&long[0..36]))
+        ],
+        [12, 12, 0]
+    );
     Ok(())
 }
 
@@ -101,9 +105,9 @@ fn eight_cells_at_most(rt: HostRuntime) -> Result<(), Fail> {
 fn images_of_at_most_4096_rows(rt: HostRuntime) -> Result<(), Fail> {
     let most = numbered(rt.alloc(), 4096)?;
     let image = Image::new(most.as_slice())?;
-    let rows = [single(0), single(4095), NONE];
+    let rows = [single(0), single(4095), None];
     assert_eq!(rt; rows_at(&image, [0, 4095, 4096]), rows);
     let over = numbered(rt.alloc(), 4097)?;
-    assert_eq!(rt; verdict(over.as_slice()), 12);
+    assert_eq!(rt; verdict(Image::new(over.as_slice())), 12);
     Ok(())
 }

@@ -1,27 +1,15 @@
 // Selections from images and ramps.
-use filter::Criterion;
+use codec::Row;
+use inputs::{slope, where_cell};
 use run::Failure;
 use select::{Selection, select_image, select_ramp};
-use source::Slope;
 
-// The number of the refusal, or 0 for a selection.
+// The number of the refusal, as a controller reports it, or 0 for a selection, and 99 for want of memory.
 fn verdict(res: Result<Selection, Failure>) -> u8 {
     match res {
         Ok(_) => 0,
         Err(Failure::Refused(refusal)) => refusal.number(),
         Err(Failure::NoMemory) => 99,
-    }
-}
-
-fn slope(start: i32, step: i32, count: u16) -> Slope {
-    Slope { start, step, count }
-}
-
-fn where_cell(cell: u8, condition: u8, constant: i32) -> Criterion {
-    Criterion {
-        cell,
-        condition,
-        constant,
     }
 }
 
@@ -32,15 +20,11 @@ fn selects(
     steps: usize,
     rows: [[i32; 8]; 2],
 ) -> bool {
-    match res {
-        Ok(found) => match found.rows.as_slice() {
-            [first, second] => {
-                [first.cells, second.cells] == rows && found.width == width && found.steps == steps
-            }
-            _ => false,
-        },
-        Err(_) => false,
-    }
+    let Ok(found) = res else {
+        return false;
+    };
+    let rows = rows.map(|cells| Row { cells });
+    found.rows.as_slice() == rows.as_slice() && found.width == width && found.steps == steps
 }
 
 #[test]

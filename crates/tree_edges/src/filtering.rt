@@ -1,10 +1,12 @@
 // Filters: which rows pass, and the faults.
-use crate::common::{MAX, MIN, Seen, four_steps};
-use filter::Filter;
-use operator::Operator;
+use crate::common::four_steps;
+use codec::Row;
+use filter::{Criterion, Filter};
+use inputs::{ramp, where_cell};
+use operator::{Answer, Operator};
 use refusal::Refusal;
 use scan::Scan;
-use source::{Image, Ramp};
+use source::Image;
 use std::test::Fail;
 
 // Three rows of width 1.
@@ -12,46 +14,59 @@ const EXTREMES: [u8; 16] = [
     1, 0, 3, 1, 0x80, 0, 0, 0, 0, 0, 0, 0, 0x7F, 0xFF, 0xFF, 0xFF,
 ];
 
-const LEAST: Seen = Seen::Cells([MIN, 0, 0, 0, 0, 0, 0, 0]);
+const LEAST: Answer = Answer::Row(Row {
+    cells: [i32::MIN, 0, 0, 0, 0, 0, 0, 0],
+});
 
-const ZERO: Seen = Seen::Cells([0, 0, 0, 0, 0, 0, 0, 0]);
+const ZERO: Answer = Answer::Row(Row {
+    cells: [0, 0, 0, 0, 0, 0, 0, 0],
+});
 
-const MOST: Seen = Seen::Cells([MAX, 0, 0, 0, 0, 0, 0, 0]);
+const MOST: Answer = Answer::Row(Row {
+    cells: [i32::MAX, 0, 0, 0, 0, 0, 0, 0],
+});
 
-const NONE_PASSES: [Seen; 4] = [Seen::Busy, Seen::Busy, Seen::Busy, Seen::Nothing];
+const NONE_PASSES: [Answer; 4] = [Answer::Busy, Answer::Busy, Answer::Busy, Answer::End];
 
-const ALL_PASS: [Seen; 4] = [LEAST, ZERO, MOST, Seen::Nothing];
+const ALL_PASS: [Answer; 4] = [LEAST, ZERO, MOST, Answer::End];
 
 // The steps of a filter over the three rows.
-fn answers(cell: u8, condition: u8, constant: i32) -> Result<[Seen; 4], Refusal> {
+fn answers(wanted: Criterion) -> Result<[Answer; 4], Refusal> {
     let image = Image::new(&EXTREMES)?;
-    let mut tree = Filter::new(Scan::new(image), cell, condition, constant);
-    Ok(four_steps(&mut tree))
+    Ok(four_steps(&mut Filter::new(Scan::new(image), wanted)))
 }
 
 // The fault of two filters over rows of width 2: the child's cell and condition, then those of its parent, number 5.
-fn fault(filters: [u8; 4]) -> Result<Option<Refusal>, Refusal> {
+fn fault(filters: [u8; 4]) -> Result<(), Refusal> {
     let [inner_cell, inner_condition, cell, condition] = filters;
-    let scan = Scan::new(Ramp::new(0, 1, 3)?);
-    let inner = Filter::new(scan, inner_cell, inner_condition, 0);
-    Ok(Filter::new(inner, cell, condition, 0).check(5))
+    let scan = Scan::new(ramp(0, 1, 3)?);
+    let inner = Filter::new(scan, where_cell(inner_cell, inner_condition, 0));
+    Filter::new(inner, where_cell(cell, condition, 0)).check(5)
 }
 
 #[test]
 fn conditions_at_the_extremes(rt: HostRuntime) -> Result<(), Fail> {
     let cases = [
-        (b'=', MIN, [LEAST, Seen::Busy, Seen::Busy, Seen::Nothing]),
-        (b'<', MIN, NONE_PASSES),
-        (b'>', MIN, [Seen::Busy, ZERO, MOST, Seen::Nothing]),
-        (b'=', 0, [Seen::Busy, ZERO, Seen::Busy, Seen::Nothing]),
-        (b'<', 0, [LEAST, Seen::Busy, Seen::Busy, Seen::Nothing]),
-        (b'>', 0, [Seen::Busy, Seen::Busy, MOST, Seen::Nothing]),
-        (b'=', MAX, [Seen::Busy, Seen::Busy, MOST, Seen::Nothing]),
-        (b'<', MAX, [LEAST, ZERO, Seen::Busy, Seen::Nothing]),
-        (b'>', MAX, NONE_PASSES),
+        (
+            b'=',
+            i32::MIN,
+            [LEAST, Answer::Busy, Answer::Busy, Answer::End],
+        ),
+        (b'<', i32::MIN, NONE_PASSES),
+        (b'>', i32::MIN, [Answer::Busy, ZERO, MOST, Answer::End]),
+        (b'=', 0, [Answer::Busy, ZERO, Answer::Busy, Answer::End]),
+        (b'<', 0, [LEAST, Answer::Busy, Answer::Busy, Answer::End]),
+        (b'>', 0, [Answer::Busy, Answer::Busy, MOST, Answer::End]),
+        (
+            b'=',
+            i32::MAX,
+            [Answer::Busy, Answer::Busy, MOST, Answer::End],
+        ),
+        (b'<', i32::MAX, [LEAST, ZERO, Answer::Busy, Answer::End]),
+        (b'>', i32::MAX, NONE_PASSES),
     ];
     for (condition, constant, steps) in cases {
-        assert_eq!(rt; answers(0, condition, constant)?, steps);
+        assert_eq!(rt; answers(where_cell(0, condition, constant))?, steps);
     }
     Ok(())
 }
@@ -72,13 +87,13 @@ fn unknown_conditions_and_missing_cells(rt: HostRuntime) -> Result<(), Fail> {
         (255, b'=', ALL_PASS),
     ];
     for (cell, condition, steps) in cases {
-        assert_eq!(rt; answers(cell, condition, 0)?, steps);
+        assert_eq!(rt; answers(where_cell(cell, condition, 0))?, steps);
     }
     Ok(())
 }
 
 #[test]
-fn faults_of_filters(rt: HostRuntime) -> Result<(), Fail> {
+fn faults_of_filters(rt: HostRuntime) {
     let cases = [
         ([0, b'=', 1, b'<'], None),
         ([1, b'>', 0, b'='], None),
@@ -93,9 +108,8 @@ fn faults_of_filters(rt: HostRuntime) -> Result<(), Fail> {
         ([1, 255, 1, b'?'], Some(Refusal::BadCondition(6))),
     ];
     for (filters, first) in cases {
-        assert_eq!(rt; fault(filters)?, first);
+        assert_eq!(rt; fault(filters).err(), first);
     }
-    Ok(())
 }
 
 #[test]

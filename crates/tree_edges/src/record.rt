@@ -1,7 +1,8 @@
 // Records: what is saved, and what a load takes up.
-use crate::common::{Seen, four_steps, next, pair, saved, taken_up};
+use crate::common::{four_steps, pair_answer, saved, taken_up};
 use filter::Filter;
-use operator::Operator;
+use inputs::{ramp, where_cell};
+use operator::{Answer, Operator};
 use refusal::Refusal;
 use scan::Scan;
 use source::Ramp;
@@ -10,12 +11,12 @@ use std::test::Fail;
 
 // Its rows are (0, -200), (1, -25) and (2, 150).
 fn three_rows() -> Result<Scan<Ramp>, Refusal> {
-    Ok(Scan::new(Ramp::new(-200, 175, 3)?))
+    Ok(Scan::new(ramp(-200, 175, 3)?))
 }
 
 // The first two of the three rows.
 fn below_zero() -> Result<Filter<Scan<Ramp>>, Refusal> {
-    Ok(Filter::new(three_rows()?, 1, b'<', 0))
+    Ok(Filter::new(three_rows()?, where_cell(1, b'<', 0)))
 }
 
 // Of a scan of three rows.
@@ -33,8 +34,8 @@ fn scan_record_is<O: Operator>(rt: &impl Abort, scan: &mut O) {
     let after = [
         saved(scan, 4) == last,
         scan.size(&[]) == 4,
-        taken_up(scan, &[0, 2, 0, 2]) == (Ok(()), pair(2, 150)),
-        taken_up(scan, &[0, 2, 0, 3]) == (Ok(()), Seen::Nothing),
+        taken_up(scan, &[0, 2, 0, 2]) == (Ok(()), pair_answer(2, 150)),
+        taken_up(scan, &[0, 2, 0, 3]) == (Ok(()), Answer::End),
     ];
     assert_eq!(rt; [before, after], [[true; 4]; 2]);
 }
@@ -43,22 +44,22 @@ fn scan_record_is<O: Operator>(rt: &impl Abort, scan: &mut O) {
 fn filter_record_is<O: Operator>(rt: &impl Abort, tree: &mut O) {
     let short = (Err(Refusal::Short), [9; 12]);
     let record = (Ok(6), [0, 4, 0, 2, 0, 1, 9, 9, 9, 9, 9, 9]);
-    next(tree);
+    tree.step();
     let found = [
         saved(tree, 1) == short,
         saved(tree, 5) == short,
         saved(tree, 6) == record,
         saved(tree, 12) == record,
         tree.size(&[]) == 6,
-        taken_up(tree, &[0, 4, 0, 2, 0, 2]) == (Ok(()), Seen::Busy),
-        taken_up(tree, &[0, 4, 0, 2, 0, 3]) == (Ok(()), Seen::Nothing),
+        taken_up(tree, &[0, 4, 0, 2, 0, 2]) == (Ok(()), Answer::Busy),
+        taken_up(tree, &[0, 4, 0, 2, 0, 3]) == (Ok(()), Answer::End),
     ];
     assert_eq!(rt; found, [true; 7]);
 }
 
 // Each refused record leaves the tree at its beginning.
 fn start_over<O: Operator>(rt: &impl Abort, tree: &mut O, records: &[&[u8]]) {
-    let refused = (Err(Refusal::Unreadable), pair(0, -200));
+    let refused = (Err(Refusal::Unreadable), pair_answer(0, -200));
     for record in records {
         assert_eq!(rt; taken_up(tree, record), refused);
     }
@@ -73,7 +74,7 @@ fn goes_on<O: Operator>(rt: &impl Abort, tree: &mut O, other: &mut O) {
     for _ in 0..5 {
         let mut record = [0; 6];
         let answers = (tree.save(&[], &mut record), other.load(&record));
-        assert_eq!(rt; (answers, next(other)), ((Ok(6), Ok(())), next(tree)));
+        assert_eq!(rt; (answers, other.step()), ((Ok(6), Ok(())), tree.step()));
     }
 }
 
@@ -97,10 +98,10 @@ fn filter_goes_on_from_its_record(rt: HostRuntime) -> Result<(), Fail> {
 
 #[test]
 fn position_in_two_bytes(rt: HostRuntime) -> Result<(), Fail> {
-    let mut scan = Scan::new(Ramp::new(0, -1, 300)?);
+    let mut scan = Scan::new(ramp(0, -1, 300)?);
     assert_eq!(rt;
         taken_up(&mut scan, &[0, 2, 1, 43]),
-        (Ok(()), pair(299, -299))
+        (Ok(()), pair_answer(299, -299))
     );
     Ok(())
 }

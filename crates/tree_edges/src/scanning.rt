@@ -1,19 +1,24 @@
 // Steps of a scan; plans and counts.
-use crate::common::{Seen, four_steps, pair, planned};
+use crate::common::{four_steps, pair_answer, planned};
 use filter::Filter;
-use operator::Operator;
+use inputs::{ramp, where_cell};
+use operator::{Answer, Operator};
 use refusal::Refusal;
 use scan::Scan;
-use source::{Ramp, Source};
 use std::process::Abort;
 use std::test::Fail;
 
 #[test]
 fn scan_steps_in_order(rt: HostRuntime) -> Result<(), Fail> {
-    let mut scan = Scan::new(Ramp::new(-200, 175, 3)?);
-    let rows = [pair(0, -200), pair(1, -25), pair(2, 150), Seen::Nothing];
+    let mut scan = Scan::new(ramp(-200, 175, 3)?);
+    let rows = [
+        pair_answer(0, -200),
+        pair_answer(1, -25),
+        pair_answer(2, 150),
+        Answer::End,
+    ];
     assert_eq!(rt; four_steps(&mut scan), rows);
-    assert_eq!(rt; four_steps(&mut scan), [Seen::Nothing; 4]);
+    assert_eq!(rt; four_steps(&mut scan), [Answer::End; 4]);
     scan.rewind();
     assert_eq!(rt; four_steps(&mut scan), rows);
     Ok(())
@@ -63,20 +68,20 @@ fn filter_plan_is<O: Operator>(rt: &impl Abort, tree: &O) {
 
 #[test]
 fn scan_of_no_rows(rt: HostRuntime) -> Result<(), Fail> {
-    let mut scan = Scan::new(Ramp::new(7, 7, 0)?);
-    assert_eq!(rt; four_steps(&mut scan), [Seen::Nothing; 4]);
+    let mut scan = Scan::new(ramp(7, 7, 0)?);
+    assert_eq!(rt; four_steps(&mut scan), [Answer::End; 4]);
     Ok(())
 }
 
 #[test]
 fn scan_plan(rt: HostRuntime) -> Result<(), Fail> {
-    scan_plan_is(&rt, &Scan::new(Ramp::new(0, 1, 258)?));
+    scan_plan_is(&rt, &Scan::new(ramp(0, 1, 258)?));
     Ok(())
 }
 
 #[test]
 fn filter_plan(rt: HostRuntime) -> Result<(), Fail> {
-    let scan = Scan::new(Ramp::new(0, 1, 3)?);
-    filter_plan_is(&rt, &Filter::new(scan, 1, b'<', -200));
+    let scan = Scan::new(ramp(0, 1, 3)?);
+    filter_plan_is(&rt, &Filter::new(scan, where_cell(1, b'<', -200)));
     Ok(())
 }

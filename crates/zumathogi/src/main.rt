@@ -13,24 +13,22 @@ const USAGE: &str = "usage: zumathogi filter FILE CELL CONDITION CONSTANT
 CELL is a cell's number from 0, CONDITION one of = < >";
 
 // One row, its cells within the width.
-fn print_row(rt: &HostRuntime, width: usize, row: &Row) -> anyhow::Result<()> {
-    for (i, cell) in row.cells.iter().take(width).enumerate() {
-        if i > 0 {
-            print!(rt; " ")?;
+fn print_row(rt: &impl Print, width: usize, row: &Row) -> anyhow::Result<()> {
+    if let [first, rest @ ..] = &row.cells[..width.min(8)] {
+        print!(rt; "{first}")?;
+        for cell in rest {
+            print!(rt; " {cell}")?;
         }
-        print!(rt; "{cell}")?;
     }
     println!(rt; "")?;
     Ok(())
 }
 
-fn print_selection(rt: &HostRuntime, found: &Selection) -> anyhow::Result<()> {
+fn print_selection(rt: &impl Print, found: &Selection) -> anyhow::Result<()> {
     for row in found.rows.iter() {
         print_row(rt, found.width, row)?;
     }
-    let count = found.rows.len();
-    let steps = found.steps;
-    println!(rt; "{count} of {steps} rows")?;
+    println!(rt; "{} of {} rows", found.rows.len(), found.steps)?;
     Ok(())
 }
 
@@ -59,21 +57,13 @@ fn answer(rt: &HostRuntime, command: Command) -> anyhow::Result<()> {
 }
 
 fn run_words(rt: &HostRuntime) -> anyhow::Result<()> {
-    let mut args = Vec::new(rt.alloc());
-    for word in env::args(rt)?.skip(1) {
-        args.push(word)?;
-    }
-    let mut words = Vec::new(rt.alloc());
-    for word in args.iter() {
-        words.push(word.as_str())?;
-    }
-    match command_of(&words) {
-        Some(command) => answer(rt, command),
-        None => {
-            rt.println(USAGE)?;
-            Err(anyhow!("no such command"))
-        }
-    }
+    let args: Vec<String> = env::args(rt)?.skip(1).collect(rt.alloc())?;
+    let words: Vec<&str> = args.iter().map(|word| word.as_str()).collect(rt.alloc())?;
+    let Some(command) = command_of(&words) else {
+        rt.println(USAGE)?;
+        return Err(anyhow!("no such command"));
+    };
+    answer(rt, command)
 }
 
 fn main(rt: HostRuntime) -> anyhow::Result<()> {

@@ -2,8 +2,8 @@ use Rattle.std.proofs.Common.{Some, sym, ap, ◌∙◌, rules}
 use Rattle.codec.proofs.Frames.{number_yes, number_no}
 use Rattle.scan.proofs.position_in.Goals as goal
 
-pub returns-in-len2 : goal.returns-in-len2
-returns-in-len2 c =
+pub returns : goal.returns
+returns c =
     let xs = c.in_ok-body_of.field-0.now in
     rw c.in_ok-body_of.ensures (ap Some c.from_be_bytes.ensures ∙ sym (number_yes xs (search rules)))
 

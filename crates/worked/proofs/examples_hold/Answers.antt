@@ -4,8 +4,7 @@ use Rattle.codec.specs.Rows.{wide}
 use Rattle.source.specs.Table.{sound, no_rows, table_of}
 use Rattle.source.specs.Images.{is_image, image_table}
 use Rattle.source.specs.Ramps.{RampFits, ramp_cell, ramp_row, ramp_rows}
-use Rattle.filter.specs.Condition.{holds, known}
-use Rattle.filter.specs.Filtering.{own_flaw}
+use Rattle.filter.specs.Condition.{holds, known, own_flaw}
 use Rattle.worked.proofs.examples_hold.Goals as goal
 
 low : (i : ℕ) → i < 3 → SFits w32 (ramp_cell (negsuc 199) (pos 175) i)

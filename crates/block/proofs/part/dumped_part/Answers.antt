@@ -1,17 +1,14 @@
-use Rattle.std.proofs.Common.{refl, arith}
+use Rattle.std.proofs.Common.{◌∙◌}
 use Rattle.std.proofs.lemmas.List.{take_rest}
 use Rattle.block.proofs.Cuts.{dumped_torn, dumped_is}
 use Rattle.block.proofs.part.dumped_part.Goals as goal
 
-pub returns-then-cut-rest : goal.returns-then-cut-rest
-returns-then-cut-rest c = record {
-  is = dumped_torn c.args.width c.args.count c.named_length-cut.result c.args.bytes.now c.bytes_from-rest.result.now (omega arith) c.bytes_from-rest.ensures c.named_length-cut.ensures (omega arith);
-  enough = tt;
-}
+pub returns-in_err-outer-clause-is : goal.returns-in_err-outer-clause-is
+returns-in_err-outer-clause-is c =
+    let rest = c.in_ok-rest.ensures.lookup.0 in
+    rw c.from_residual-in_err-outer.ensures (dumped_torn c.args.width c.args.count c.args.bytes.now _ rest.0 (rest.2 ∙ take_rest c.args.bytes.now _) c.in_err-outer.ensures)
 
-pub returns : goal.returns
-returns c = record {
-  is = dumped_is c.args.width c.args.count c.named_length-cut.result c.args.bytes.now c.bytes_from-rest.result.now _ _
-      (omega arith) c.bytes_from-rest.ensures c.named_length-cut.ensures (omega arith) refl (take_rest c.bytes_from-rest.result.now c.named_length-cut.result);
-  enough = omega arith;
-}
+pub returns-clause-is : goal.returns-clause-is
+returns-clause-is c =
+    let rest = c.in_ok-rest.ensures.lookup.0 in
+    dumped_is c.args.width c.args.count c.args.bytes.now _ rest.0 (rest.2 ∙ take_rest c.args.bytes.now _) _ c.in_ok-outer.ensures

@@ -1,33 +1,18 @@
-use Rattle.std.proofs.Common.{min, Some, None, sym, arith}
-use Rattle.block.specs.Kept.{part_of}
-use Rattle.block.proofs.Cuts.{same_part, same_enough, no_part, the_part, wrong_tail}
+use Rattle.std.proofs.Common.{min, arith}
+use Rattle.block.specs.Kept.{form_number}
+use Rattle.block.proofs.Cuts.{no_form, the_form, no_part, the_part}
 use Rattle.block.proofs.part.part_of.Goals as goal
 
-pub returns-then-is_tail : goal.returns-then-is_tail
-returns-then-is_tail c =
-    let w = min 8 c.args.width in
-    let p = c.in-Some.part in
-    record {
-      is = the_part c.args.tail w c.args.form c.args.count c.args.bytes.now (part_of w p)
-          (same_part c.min.result w c.args.form c.from.result c.args.count c.args.bytes.now (Some p) (omega (arith, c.min.ensures)) c.from.ensures c.in-Some.ensures.is) (sym c.if-is_tail.ensures);
-      enough = same_enough c.min.result w (Some p) (omega (arith, c.min.ensures)) c.in-Some.ensures.enough;
-    }
+pub returns-in_err-form-clause-is : goal.returns-in_err-form-clause-is
+returns-in_err-form-clause-is c =
+    rw c.from_residual.ensures (no_form c.args.tail (min 8 c.args.width) c.args.head.form c.args.head.count c.args.bytes.now c.try_from.result c.try_from.ensures c.in_err-form.ensures.value)
 
-pub returns-else-is_tail : goal.returns-else-is_tail
-returns-else-is_tail c =
-    let w = min 8 c.args.width in
-    let p = c.in-Some.part in
-    record {
-      is = wrong_tail c.args.tail w c.args.form c.args.count c.args.bytes.now (part_of w p)
-          (same_part c.min.result w c.args.form c.from.result c.args.count c.args.bytes.now (Some p) (omega (arith, c.min.ensures)) c.from.ensures c.in-Some.ensures.is) (sym c.if-is_tail.ensures);
-      enough = tt;
-    }
+pub returns-in_err-part-clause-is : goal.returns-in_err-part-clause-is
+returns-in_err-part-clause-is c =
+    rw c.from_residual-in_err-part.ensures (no_part c.args.tail c.min.result (min 8 c.args.width) (form_number c.in_ok-form.form) c.args.head.form c.from.result c.args.head.count c.args.bytes.now (omega (arith, c.min.ensures))
+    (the_form c.args.head.form c.in_ok-form.form c.try_from.result c.try_from.ensures c.in_ok-form.ensures.value) c.from.ensures c.in_err-part.ensures.is)
 
-pub returns-in-None : goal.returns-in-None
-returns-in-None c =
-    let w = min 8 c.args.width in
-    record {
-      is = no_part c.args.tail w c.args.form c.args.count c.args.bytes.now
-          (same_part c.min.result w c.args.form c.from.result c.args.count c.args.bytes.now None (omega (arith, c.min.ensures)) c.from.ensures c.in-None.ensures.is);
-      enough = tt;
-    }
+pub returns-clause-is : goal.returns-clause-is
+returns-clause-is c =
+    the_part c.args.tail c.min.result (min 8 c.args.width) (form_number c.in_ok-form.form) c.args.head.form c.from.result c.args.head.count c.args.bytes.now (omega (arith, c.min.ensures))
+    (the_form c.args.head.form c.in_ok-form.form c.try_from.result c.try_from.ensures c.in_ok-form.ensures.value) c.from.ensures c.in_ok-part.part c.is_tail.result c.then_some.result c.in_ok-part.ensures.is c.is_tail.ensures c.then_some.ensures

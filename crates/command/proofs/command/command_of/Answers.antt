@@ -1,20 +1,18 @@
 use Rattle.std.proofs.Common.{◌≡◌, length, rules}
-use Rattle.command.proofs.Asked.{five_words, seven_words, seven_none}
+use Rattle.command.proofs.Asked.{no_filter, no_slope, no_ramp}
 use Rattle.command.proofs.command.command_of.Goals as goal
 
-pub returns-in-filter : goal.returns-in-filter
-returns-in-filter c =
+pub returns-in_err-wanted-in-filter : goal.returns-in_err-wanted-in-filter
+returns-in_err-wanted-in-filter c =
     let n : length c.args.words.now ≡ 5 = search rules in
-    let e = c.in-filter.is-filter in
-    five_words c.args.words.now _ c.filter_of.result n e c.filter_of.ensures
+    no_filter c.args.words.now _ c.from_residual.result c.from_residual.ensures n c.in_err-wanted-in-filter.ensures
 
-pub returns-in-Some : goal.returns-in-Some
-returns-in-Some c =
+pub returns-in_err-slope-in-ramp : goal.returns-in_err-slope-in-ramp
+returns-in_err-slope-in-ramp c =
     let n : length c.args.words.now ≡ 7 = search rules in
-    let e = c.in-ramp.is-ramp in
-    seven_words c.args.words.now _ c.in-Some.wanted c.ramp_of.result n e c.in-Some.ensures c.ramp_of.ensures
+    no_slope c.args.words.now _ c.from_residual-in_err-slope-in-ramp.result c.from_residual-in_err-slope-in-ramp.ensures n c.in_err-slope-in-ramp.ensures
 
-pub returns-in-None : goal.returns-in-None
-returns-in-None c =
+pub returns-in_err-wanted-in-ramp : goal.returns-in_err-wanted-in-ramp
+returns-in_err-wanted-in-ramp c =
     let n : length c.args.words.now ≡ 7 = search rules in
-    seven_none c.args.words.now _ n c.in-None.ensures
+    no_ramp c.args.words.now _ c.from_residual-in_err-wanted-in-ramp.result c.from_residual-in_err-wanted-in-ramp.ensures n c.in_err-wanted-in-ramp.ensures

@@ -1,17 +1,19 @@
-use Rattle.std.proofs.Common.{◌+◌, Some, None, Option, sym, refl, ◌∙◌, subst, arith}
-use Rattle.pairing.specs.Pairs.{Hit, Emits}
-use Rattle.pairing.proofs.Rows.{first_skip, first_hit, first_none}
+use Rattle.std.proofs.Common.{rules, [], sym, ◌∙◌}
+use Rattle.codec.specs.declared.row.Row.{Row}
+use Rattle.pairing.specs.Terms.{terms_of}
+use Rattle.pairing.specs.Pairs.{Pairing}
+use Rattle.pairing.proofs.Rows.{first_hit, first_none, Passed}
 use Rattle.pairing.proofs.pair.next_match.Goals as goal
-
-pub returns-then-matches : goal.returns-then-matches
-returns-then-matches c =
-    let h = first_hit (record { terms = _; width = c.args.width }) c.args.rows.now c.args.held.now c.loop-at.at _ (omega arith) (sym c.if-matches.ensures.0) in
-    subst (λ (v : Option Hit). Emits v (Some (c.loop-at.at + 1)) c.args.row.now c.joined_row.result) (sym (c.loop-at.invariant.1 ∙ h)) (refl, c.joined_row.ensures)
-
-pub loop-at-preserved : goal.loop-at-preserved
-loop-at-preserved c =
-    (c.loop-at.invariant.0, c.loop-at.invariant.1 ∙ first_skip _ c.args.rows.now c.args.held.now c.loop-at.at _ (omega arith) (sym c.if-matches.ensures.0))
 
 pub returns : goal.returns
 returns c =
-    subst (λ (v : Option Hit). Emits v None c.args.row.now c.loop-at.row) (sym (c.loop-at.invariant.1 ∙ first_none _ c.args.rows.now c.args.held.now c.loop-at.at (omega arith))) c.loop-at.invariant.0
+    let p : Pairing = record { terms = terms_of c.args.rule.now; width = c.args.width } in
+    let d : Row = record { cells = [] } in
+    let f : Passed p c.args.rows.now c.args.held.now d c.args.from c.in_ok-at.at = λ k a b. search rules in
+    let h = first_hit p c.args.rows.now c.args.held.now d c.in_ok-at.outer.now c.args.from c.in_ok-at.at (search rules) (search rules) (search rules) (search rules) f in
+    let j = c.joined_row.ensures in
+    rw j (sym h)
+
+pub returns-in_err-at : goal.returns-in_err-at
+returns-in_err-at c =
+    c.from_residual.ensures ∙ sym (first_none (record { terms = terms_of c.args.rule.now; width = c.args.width }) c.args.rows.now c.args.held.now (record { cells = [] }) c.args.from (λ k a b. search rules))

@@ -20,7 +20,7 @@ returns-in-None g c = λ fine.
       c.size.ensures good,
       n,
       rows_few (length c.rows.result.now) c.min.result c.rows.ensures.few (omega (arith, c.min.ensures)),
-      laws.small t.child c.args.choices.now good,
+      laws.small t.child c.args.choices.outer.now good,
       fine.few,
-      part_length o.machine c.args.back c.args.choices.now t v fine.stands.wide c.in-None.ensures,
+      part_length o.machine c.args.choices.back c.args.choices.outer.now t v fine.stands.wide c.in-None.ensures,
     )

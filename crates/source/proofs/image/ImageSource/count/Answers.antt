@@ -1,16 +1,6 @@
-use Rattle.std.proofs.Common.{sym, ◌∙◌, arith}
-use Rattle.source.proofs.Imaged.{count_good, count_bad}
+use Rattle.std.proofs.Common.{sym, ◌∙◌}
+use Rattle.source.proofs.Imaged.{count_good, count_is}
 use Rattle.source.proofs.image.ImageSource.count.Goals as goal
 
-pub overflow_cast-result : goal.overflow_cast-result
-overflow_cast-result c =
-    let e = c.in-Some.ensures in
-    omega (arith, e.0.few, e.1)
-
-pub returns-in-Some : goal.returns-in-Some
-returns-in-Some c =
-    let e = c.in-Some.ensures in
-    e.1 ∙ sym (count_good c.args.self.now.bytes.now e.0)
-
-pub returns-in-None : goal.returns-in-None
-returns-in-None c = sym (count_bad c.args.self.now.bytes.now c.in-None.ensures)
+pub returns : goal.returns
+returns c = let m = c.args.self.now in c.from_be_bytes.ensures ∙ sym (count_is m.bytes.now) ∙ sym (count_good m.bytes.now m.rule)
