@@ -1,4 +1,5 @@
 pub mod Places
+pub mod Parts
 pub mod Options
 pub mod Cuts
 pub mod Records

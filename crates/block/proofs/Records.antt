@@ -10,7 +10,7 @@ use Rattle.codec.proofs.Rows.{rows_wide}
 use Rattle.block.specs.Places.{rows_bytes}
 use Rattle.block.specs.Kept.{Kept, dumped, owed, kept_form, kept_count, kept_record, kept_bytes, Of, Cut, cut, Parted, part_at, tailed, parted}
 use Rattle.block.proofs.Options.{of_when, of_cond, of_then, when_so, then_so}
-use Rattle.block.proofs.Places.{length_rows, rows_back, length_rows_of}
+use Rattle.block.proofs.Places.{length_rows, rows_back, length_rows_of, rows_short}
 
 -- a record off the front
 cut_ok : (bs : List ℕ) → Of (λ (c : Cut). (length c.piece ≡ 2 + of2 c.piece) × (length c.piece + length c.behind ≡ length bs)) (cut bs)
@@ -98,3 +98,8 @@ part_back v (owed b contract) xs h (k, l) =
 pub parted_back : (tail : Bool) (v : ℕ) (k : Kept) (xs : List ℕ) → v ≤ 8 → Sound v k → tailed tail xs ≡ true → parted tail v (kept_form k) (kept_count k) (kept_bytes v k ++ xs) ≡ Some (record { kept = k; behind = xs })
 unfolding parted
 parted_back tail v k xs h s t = then_so _ _ (record { kept = k; behind = xs }) (part_back v k xs h s) ∙ when_so _ _ t
+
+-- a block of at most 16 rows adds at most 512 bytes to the outer record
+pub kept_short : (v : ℕ) (k : Kept) → v ≤ 8 → kept_count k ≤ 16 → Sound v k → length (kept_bytes v k) ≤ 512 + length (kept_record k)
+kept_short v (dumped rows outer) h c s = simp length-append (omega (arith, rows_short v rows h))
+kept_short v (owed count contract) h c s = omega arith

@@ -25,6 +25,22 @@ impl<'a> Writer<'a> {
         Writer { buffer, place: 0 }
     }
 
+    // The place behind what stands there.
+    pub fn place(&self) -> usize
+        ensures { result ≡ self.now.place }
+    {
+        self.place
+    }
+
+    // Goes on at any place; behind the buffer's end nothing fits.
+    pub fn go_to(&mut self, place: usize)
+        ensures same_buffer { SameBuffer self.old self.new }
+        ensures holds { self.new.buffer.now ≡ self.old.buffer.now }
+        ensures there { self.new.place ≡ place }
+    {
+        self.place = place;
+    }
+
     // Has a part written behind what stands there, if it fits: what writes bytes to the front of its buffer writes them
     // there.
     pub fn put<F: FnOnce(&mut [u8]) -> Result<usize, Refusal>>(&mut self, part: F)

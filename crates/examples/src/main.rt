@@ -1,6 +1,7 @@
 // The worked examples, run by the code and printed beside the theorem that proves them of the definitions.
 #![tactic(auto)]
 
+use anyhow::anyhow;
 use codec::{Row, layouts_read_back, write_row};
 use filter::{Criterion, Filter};
 use operator::Operator;
@@ -69,7 +70,8 @@ fn print_row(rt: &impl Print) -> anyhow::Result<()> {
 
 fn print_filter(rt: &HostRuntime) -> anyhow::Result<()> {
     print!(rt; "P by cell 1 > 0:")?;
-    for row in select_image(rt.alloc(), &P, ABOVE_0)?.rows.iter() {
+    let found = select_image(rt.alloc(), &P, ABOVE_0).map_err(|_| anyhow!("refused"))?;
+    for row in found.rows.iter() {
         print_pair(rt, row)?;
     }
     println!(rt; "")?;

@@ -1,5 +1,5 @@
 -- The machine of a filter keeps its meaning if its child's does, and the code keeps to the machine. Assumes nothing.
-use Rattle.std.proofs.Common.{◌≡◌, ℕ, ◌+◌, ◌*◌, ◌≤◌, Bool, true, false, cond, List, ◌∷◌, ◌++◌, length, get_or, drop, replicate, Some, None, Ok, Err, filter, Option, Result, sym, refl, ap, ◌∙◌, arith}
+use Rattle.std.proofs.Common.{◌≡◌, ℕ, ◌+◌, ◌*◌, ◌≤◌, Bool, true, false, cond, List, ◌∷◌, ◌++◌, length, get_or, drop, replicate, ℤ, Some, None, Ok, Err, filter, Option, Result, sym, refl, ap, ◌∙◌, arith, w32, SFits}
 use Rattle.std.specs.Option.{option_map}
 use Rattle.std.proofs.ByRecursion.{all_kept_by}
 use Rattle.std.proofs.lemmas.List.{append-nil}
@@ -7,8 +7,10 @@ use Rattle.std.proofs.lemmas.Bool.{cond-true, cond-false}
 use Rattle.refusal.specs.declared.Refusal.{Refusal}
 use Rattle.refusal.specs.Numbers.{Fault, either}
 use Rattle.codec.specs.declared.row.Row.{Row}
-use Rattle.codec.specs.Bytes.{Word, word_bytes}
+use Rattle.codec.specs.Bytes.{Word, word_bytes, cell_word}
+use Rattle.codec.specs.Rows.{cell_at}
 use Rattle.codec.specs.Frames.{body, then}
+use Rattle.codec.proofs.Laws.{cell_back}
 use Rattle.codec.proofs.Frames.{body_framed, framed_length, framed_of2, body_length}
 use Rattle.plan.specs.Plans.{tree, none, plan_bytes}
 use Rattle.operator.specs.declared.answer.Answer.TheVariants as answer
@@ -16,7 +18,7 @@ use Rattle.operator.specs.Machine.{Machine, Move, Good, row, busy, end}
 use Rattle.operator.specs.Calls.{Moved, Loaded}
 use Rattle.operator.specs.Laws.{Meaning, Same, ByPlan, Alike, Meant, Read, Laws}
 use Rattle.operator.proofs.Steps.{carried}
-use Rattle.filter.specs.Condition.{passing, own_flaw}
+use Rattle.filter.specs.Condition.{holds, passing, own_flaw}
 use Rattle.filter.specs.Filtering.{Filtering, filtering, over, passes, head, sifted, refetched, filter_machine, filter_meaning}
 
 -- what the code does: a step of the child makes a step of the filter
@@ -49,6 +51,10 @@ loaded s b c' None (Ok u) h = absurd h
 loaded s b c' None (Err e) (n, f) = (n, ap (over s) f)
 loaded s b c' (Some t) (Ok u) f = ap (over s) f
 loaded s b c' (Some t) (Err e) h = absurd h
+
+-- a row passes as its cell stands to the number that the filter was made with
+pub tested : {C : Type 0} (child : C) (cell condition : ℕ) (constant : ℤ) (y : Row) (b : Bool) → SFits w32 constant → holds condition (cell_at y cell) constant ≡ b → passes (filtering child cell condition (cell_word constant)) y ≡ b
+tested child cell condition constant y b f e = ap (holds condition (cell_at y cell)) (cell_back constant f) ∙ e
 
 -- the child has no fault, so the filter's own is the first
 pub own_first : (f : ℕ → Option Fault) (first next : ℕ) (x : Option Fault) → next ≡ first + 1 → None ≡ f next → either (f (first + 1)) x ≡ x

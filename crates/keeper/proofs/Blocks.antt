@@ -1,11 +1,6 @@
 -- A block taken from a child, in standing and in records. Assumes nothing.
-use Rattle.std.proofs.Common.{◌≡◌, ℕ, ◌+◌, ◌*◌, ◌<◌, ◌≤◌, min, Bool, List, ◌++◌, length, take, replicate, Some, None, Option, Ok, Err, Result, sym, ap, ◌∙◌, arith, length-append}
-use Rattle.std.specs.Result.{result_ok}
-use Rattle.std.proofs.lemmas.List.{take_at, take-replicate}
-use Rattle.std.proofs.lemmas.Bool.{le-leb, lt-leb, cond-true, cond-false}
-use Rattle.refusal.specs.declared.Refusal.{Refusal}
-use Rattle.codec.specs.Written.{Wrote}
-use Rattle.block.specs.Held.{signed}
+use Rattle.std.proofs.Common.{◌≡◌, ℕ, ◌+◌, ◌*◌, ◌≤◌, min, Bool, List, ◌++◌, length, take, replicate, None, Option, ap, ◌∙◌, arith, length-append}
+use Rattle.std.proofs.lemmas.List.{take-replicate}
 use Rattle.std.specs.List.{AllByRecursion}
 use Rattle.codec.specs.declared.row.Row.{Row}
 use Rattle.codec.specs.Rows.{Wide}
@@ -15,20 +10,6 @@ use Rattle.block.specs.Kept.{kept_bytes}
 use Rattle.block.proofs.Places.{length_rows}
 use Rattle.keeper.specs.Taking.{Taken, taken, way_back, kept_in}
 use Rattle.keeper.specs.Outer.{part_bytes}
-
--- a record written into 512 bytes, kept if it fits
-pub signed_ok : (bytes old new held : List ℕ) (r : Result ℕ Refusal) (used : ℕ) → length old ≡ 512 → Some used ≡ result_ok r → held ≡ take used new → Wrote bytes old new r → Some held ≡ signed bytes
-signed_ok bytes old new held (Ok n) used l e h (a, b, c) =
-    let k : length bytes ≤ 512 = omega arith in
-    let u : used ≡ length bytes = cc in
-    ap (λ (x : List ℕ). Some x) (h ∙ ap (take used) c ∙ take_at bytes _ used (sym u)) ∙ sym (cond-true _ _ _ (le-leb _ _ k))
-signed_ok bytes old new held (Err f) used l e h w = cc
-
-pub signed_err : (bytes old new : List ℕ) (r : Result ℕ Refusal) → length old ≡ 512 → None ≡ result_ok r → Wrote bytes old new r → None ≡ signed bytes
-signed_err bytes old new (Ok n) l e w = cc
-signed_err bytes old new (Err f) l e (a, b, c) =
-    let k : 512 < length bytes = omega arith in
-    sym (cond-false _ _ _ (lt-leb _ _ k))
 
 -- so many choices to go back, of at most 16
 pub all_back : (n k : ℕ) → n ≡ min k 16 → k ≤ 16 → take n (replicate {A = ℕ} 16 2) ≡ replicate k 2

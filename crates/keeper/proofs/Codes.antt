@@ -65,6 +65,9 @@ module _ {G S T : Type 0} (k : Kind G) (n : Sense G) (p : Proper k n) (o : Machi
     restored_as : (f : Fields G) → PartsAre (Some f) → m.restored s bytes ≡ resumed k.phases o d.togo s.terms (o.restored s.outer.child) (i.restored s.inner) (i.begin s.inner) f
     restored_as f h = then_so _ _ f h
 
+    pub no_parts : (t : Keeping G S T) (r : Refusal) → PartsAre None → number r ≡ 10 → Restores (m.restored s bytes) (Err r) t
+    no_parts t r h q = none_restored (m.restored s bytes) r t (then_none _ _ h) q
+
     pub no_block : (f : Fields G) (u : Taken S) (t : Keeping G S T) (r : Refusal) → PartsAre (Some f) → Restores (rebuilt o d.togo (o.restored s.outer.child) f.kept) (Err r) u → Restores (m.restored s bytes) (Err r) t
     no_block f u t r h q = let z = restores_none (rebuilt o d.togo (o.restored s.outer.child) f.kept) r u q in none_restored (m.restored s bytes) r t (restored_as f h ∙ then_none _ _ z.0) z.1
 

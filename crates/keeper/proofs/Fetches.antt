@@ -134,18 +134,20 @@ module _ {S : Type 0} (m : Machine S) (d : Meaning S) (l : Laws m d) where
         subst On (sym h) on
 
     -- a turn of the loop: the child answered
-    pub row_turn : (t u : Taken S) (x : S) (b : Row) (v : Move S) → On t → length t.rows < count → m.next t.child ≡ v → Meant m d t.child v → Moved t.child v (answer.Row b) x → u ≡ with_row t b x → On u
+    pub row_turn : (t u : Taken S) (x : S) (b : Row) (v : Move S) → On t → length t.rows < count → m.next t.child ≡ v → Meant m d t.child v → Moved t.child v (answer.Row b) x → u ≡ with_row t b x → On u × (d.togo x < d.togo t.child)
     row_turn t u x b (row b' x') o lt e k (p, q) h =
         let z : row b' x' ≡ row b x = cc in
-        row_at o.fuel t u x b o.begins o.good lt o.enough o.left (e ∙ z) (subst (Meant m d t.child) z k) h
+        let k' = subst (Meant m d t.child) z k in
+        (row_at o.fuel t u x b o.begins o.good lt o.enough o.left (e ∙ z) k' h, k'.3)
     row_turn t u x b (busy x') o lt e k f h = absurd f
     row_turn t u x b end o lt e k f h = absurd f
 
-    pub busy_turn : (t u : Taken S) (x : S) (v : Move S) → On t → length t.rows < count → m.next t.child ≡ v → Meant m d t.child v → Moved t.child v answer.Busy x → u ≡ over t x → On u
+    pub busy_turn : (t u : Taken S) (x : S) (v : Move S) → On t → length t.rows < count → m.next t.child ≡ v → Meant m d t.child v → Moved t.child v answer.Busy x → u ≡ over t x → On u × (d.togo x < d.togo t.child)
     busy_turn t u x (row b' x') o lt e k f h = absurd f
     busy_turn t u x (busy x') o lt e k p h =
         let z : busy x' ≡ busy x = cc in
-        busy_at o.fuel t u x o.begins o.good lt o.enough o.left (e ∙ z) (subst (Meant m d t.child) z k) h
+        let k' = subst (Meant m d t.child) z k in
+        (busy_at o.fuel t u x o.begins o.good lt o.enough o.left (e ∙ z) k' h, k'.3)
     busy_turn t u x end o lt e k f h = absurd f
 
     pub end_turn : (t u : Taken S) (x : S) (v : Move S) (r : Refusal) → On t → length t.rows < count → m.next t.child ≡ v → Moved t.child v answer.End x → number r ≡ 10 → Restores all (Err r) u × (m.begin x ≡ first)

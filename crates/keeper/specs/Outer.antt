@@ -8,12 +8,13 @@ use Rattle.operator.specs.Laws.{Meaning}
 use Rattle.block.specs.declared.part.Stored.{Stored}
 use Rattle.block.specs.declared.part.Stored.TheVariants as stored
 use Rattle.block.specs.Kept.{Kept, kept_bytes}
+use Rattle.block.specs.Held.{block_rows, contract_of}
 use Rattle.keeper.specs.declared.outer.OuterBlock.{OuterBlock}
 use Rattle.keeper.specs.Taking.{Taken, taken, kept_by, fetch, Stands}
 
 -- the block of an outer child as lists
 abbrev pub taken_of : {O : Type 0} → (g : Ghosts O) → OuterBlock O → Taken g.State
-taken_of g b = taken b.block b.contract (g.state b.child)
+taken_of g b = taken (block_rows b.block) (contract_of b.contract) (g.state b.child)
 
 -- good standing, in a tree of at most 16 operators
 pub record Fine {S : Type 0} (m : Machine S) (d : Meaning S) (t : Taken S) : Type 0 where

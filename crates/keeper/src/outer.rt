@@ -5,7 +5,7 @@ ghost use Rattle.operator.specs.Of.{of};
 ghost use Rattle.codec.specs.Frames.{Found};
 ghost use Rattle.block.specs.Places.{Put, SameBuffer};
 ghost use Rattle.block.specs.Kept.{form_number, kept_of, kept_count, kept_record};
-ghost use Rattle.block.specs.Held.{signed};
+ghost use Rattle.block.specs.Held.{contract_of, signed};
 ghost use Rattle.keeper.specs.Taking.{taken, untaken, with_row, back_record, signing, way_back, form_by, fetch, rebuilt, refetch_kept};
 ghost use Rattle.keeper.specs.Outer.{taken_of, Fine, kept_for, part_bytes, Loadable, Restores};
 
@@ -47,7 +47,7 @@ impl<O: Operator> OuterBlock<O> {
 
     // A contract with the child as it stands, if it is not too long.
     fn contract_now(&self) -> Option<Contract>
-        ensures { Good O.Operator.machine O.Operator.standing (O.Operator.state self.now.child) → result ≡ signed (back_record O.Operator.machine (O.Operator.state self.now.child)) }
+        ensures { Good O.Operator.machine O.Operator.standing (O.Operator.state self.now.child) → contract_of result ≡ signed (back_record O.Operator.machine (O.Operator.state self.now.child)) }
     {
         let choices = [GO_BACK; MAX_OPERATORS];
         let keepers = self.child.keepers().min(MAX_OPERATORS);

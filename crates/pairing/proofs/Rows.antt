@@ -1,10 +1,7 @@
 -- What the code does with rows: a match, a joined row, and the first match. Assumes nothing.
-use Rattle.std.proofs.Common.{◌≡◌, ℕ, zero, suc, ◌+◌, ◌-◌, ◌<◌, ◌≤◌, min, Bool, true, false, List, ◌++◌, length, get_or, take, drop, ℤ, Some, None, Option, Decides, sym, ap, ◌∙◌, ⊎_elim, arith, length-append, length-drop, length-take}
-use Rattle.std.proofs.Math.Seq.{take-append-add}
-use Rattle.std.proofs.lemmas.List.{length-take-le, take_all, take_min, at_drop_more, at_drop_all}
-use Rattle.std.proofs.lemmas.Slice.{take-put_mid}
+use Rattle.std.proofs.Common.{◌≡◌, ℕ, zero, suc, ◌+◌, ◌-◌, ◌<◌, ◌≤◌, Bool, true, false, List, [], ◌∷◌, ◌++◌, length, get_or, take, drop, set, ℤ, pos, Some, None, Option, Decides, sym, ap, ◌∙◌, ⊎_elim, arith, length-drop, length-take}
+use Rattle.std.proofs.lemmas.List.{get_or-take, get_or_append_left, get_or-append_right, length-take-le, take_more, take_more_set, at_drop_more, at_drop_all, get_or-drop}
 use Rattle.std.proofs.lemmas.Bool.{cases_lt, cond-true, cond-false}
-use borrow.Rule.Slice.PartMut.{put_mid}
 use Rattle.std.proofs.lemmas.Bool.Decides.{Decides-at}
 use Rattle.codec.specs.declared.row.Row.{Row}
 use Rattle.codec.specs.Bytes.{word_cell}
@@ -21,15 +18,18 @@ pub matched : (t : Bool) (r : Terms) (a b : Row) (c : ℕ) (w x y : ℤ) → t �
 unfolding match
 matched t r a b c w x y e p q u v = let m : t ≡ match r a b = cc in (m, Decides-at t (match r a b) m (decides_match r a b))
 
--- the first cells of one row, and behind them those of the other
-pub joined_cells : (w k : ℕ) (xs ys zs : List ℤ) → length xs ≡ 8 → length ys ≡ 8 → k ≡ min w 8 → zs ≡ take (8 - k) ys → put_mid k (8 - k) xs zs ≡ take 8 (take w xs ++ ys)
-joined_cells w k xs ys zs h l e f =
-    let n : length (take w xs) ≡ k = simp length-take (omega arith) in
-    let m : length zs ≡ 8 - k = ap length f ∙ length-take-le (8 - k) ys (omega arith) in
-    let front : take k xs ≡ take w xs = ap (λ i. take i xs) (let o : k ≡ min w (length xs) = omega arith in o) ∙ take_min w xs in
-    let eight : length (take w xs) + (8 - k) ≡ 8 = omega arith in
-    sym (take_all 8 (put_mid k (8 - k) xs zs) (simp (length-append, length-take, length-drop) (omega arith))) ∙ take-put_mid k (8 - k) xs zs 8 (omega arith) (omega arith)
-    ∙ ap (λ cells. cells ++ zs) front ∙ ap (λ cells. take w xs ++ cells) f ∙ sym (take-append-add (take w xs) ys (8 - k)) ∙ ap (λ i. take i (take w xs ++ ys)) eight
+-- a joined row cell by cell: the outer cells within their width, behind them the inner cells, and one cell more
+pub outer_cell : (w i : ℕ) (xs ys : List ℤ) (d : ℤ) → i < w → i < length xs → get_or (take w xs ++ ys) i d ≡ get_or xs i d
+outer_cell w i xs ys d h k =
+    let l : i < length (take w xs) = simp length-take (omega arith) in
+    get_or_append_left (take w xs) ys d i l ∙ get_or-take w xs i d h
+
+pub inner_cell : (w i : ℕ) (xs ys : List ℤ) (d : ℤ) → w ≤ i → w ≤ length xs → get_or (take w xs ++ ys) i d ≡ get_or ys (i - w) d
+inner_cell w i xs ys d h k = get_or-append_right (take w xs) ys w i d (length-take-le w xs k) h
+
+pub cell_more : (cells row : List ℤ) (i : ℕ) (v : ℤ) → i < length cells → i < length row → take i cells ≡ take i row → v ≡ get_or row i (pos 0) → take (i + 1) (set cells i v) ≡ take (i + 1) row
+cell_more cells row i v h k e f =
+    take_more_set cells i v h ∙ ap (λ l. l ++ v ∷ []) e ∙ ap (λ u. take i row ++ u ∷ []) f ∙ sym (take_more row i (pos 0) k)
 
 module _ (p : Pairing) (rows : List Row) (x d : Row) where
   -- the rows from one place to another do not match
@@ -54,3 +54,23 @@ module _ (p : Pairing) (rows : List Row) (x d : Row) where
     where
       within : k < length rows → from k ≡ None
       within l = passed (length rows - k) k (length rows) (omega arith) (omega arith) f ∙ at_drop_all (first p x (length rows)) rows (length rows) (omega arith)
+
+  -- the same of the rows from a place on
+  abbrev Missed : ℕ → List Row → Type 0
+  Missed i part = (j : ℕ) → j < i → match p.terms (get_or part j d) x ≡ false
+
+  passed_part : (part : List Row) (k i : ℕ) → part ≡ drop k rows → Missed i part → Passed k (k + i)
+  passed_part part k i e f j l m =
+      let n : k + (j - k) ≡ j = omega arith in
+      ap (λ (b : Row). match p.terms b x) (ap (λ (q : ℕ). get_or rows q d) (sym n) ∙ sym (get_or-drop k rows (j - k) d) ∙ ap (λ (l : List Row). get_or l (j - k) d) (sym e)) ∙ f (j - k) (omega arith)
+
+  pub first_hit_part : (part : List Row) (b : Row) (k i : ℕ) → part ≡ drop k rows → i < length part → get_or part i d ≡ b → match p.terms b x ≡ true → Missed i part → first p x k (drop k rows) ≡ Some (record { row = row_joined p.width b x; next = k + i + 1 })
+  first_hit_part part b k i e l g t f =
+      let n : length part ≡ length rows - k = ap length e ∙ length-drop k rows in
+      let h : get_or rows (k + i) d ≡ b = sym (get_or-drop k rows i d) ∙ ap (λ (l : List Row). get_or l i d) (sym e) ∙ g in
+      first_hit b k (k + i) (omega arith) (omega arith) h t (passed_part part k i e f)
+
+  pub first_none_part : (part : List Row) (k : ℕ) → part ≡ drop k rows → Missed (length part) part → first p x k (drop k rows) ≡ None
+  first_none_part part k e f =
+      let n : length part ≡ length rows - k = ap length e ∙ length-drop k rows in
+      first_none k (λ j l m. passed_part part k (length part) e f j l (omega arith))

@@ -17,9 +17,16 @@ pub struct Hit {
 pub fn joined_row(width: usize, outer: &Row, inner: &Row) -> Row
     ensures { result ≡ row_joined width outer.now inner.now }
 {
-    let kept = width.min(8);
-    let mut cells = outer.cells;
-    cells[kept..].copy_from_slice(&inner.cells[..8 - kept]);
+    // Cell by cell, always eight: a copy of a length that varies takes twice as long.
+    let mut cells = [0; 8];
+    for (i, left) in outer.cells.iter().enumerate() {
+        let cell = if i < width {
+            *left
+        } else {
+            inner.cells[i - width]
+        };
+        cells[i] = cell;
+    }
     Row { cells }
 }
 
@@ -33,13 +40,14 @@ pub fn next_match(
 ) -> Option<Hit>
     ensures { result ≡ first (record { terms = terms_of rule.now; width = width }) held.now from (drop from rows.now) }
 {
+    // Over the part from there on: `skip` would step over the rows ahead one by one at each call.
     let (at, outer) = rows
+        .get(from..)?
         .iter()
         .enumerate()
-        .skip(from)
         .find(|(_, outer)| rule.matches(outer, held))?;
     Some(Hit {
         row: joined_row(width, outer, held),
-        next: at + 1,
+        next: from + at + 1,
     })
 }

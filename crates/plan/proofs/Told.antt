@@ -94,15 +94,15 @@ told_turn (suc m) (suc n) q bs shape rest h b some room =
     alike m m' n n' q q' rest a b c = rw (a, b, c)
 
 -- an operator has two children at most
-pub few_children : (bs : List ℕ) (shape : Shape) (rest : List ℕ) → BeginsWith bs shape rest → shape.children ≤ 2
-few_children bs shape rest b = let d : shape.children ≡ kind_children b.number = ap (λ (s : Shape). s.children) b.is in omega (arith, few b.number)
-  where
-    few : (k : ℕ) → kind_children k ≤ 2
-    few zero = omega arith
-    few (suc zero) = omega arith
-    few (suc (suc zero)) = omega arith
-    few (suc (suc (suc zero))) = omega arith
-    few (suc (suc (suc (suc k)))) = omega arith
+pub few_children : (k : ℕ) → kind_children k ≤ 2
+few_children zero = omega arith
+few_children (suc zero) = omega arith
+few_children (suc (suc zero)) = omega arith
+few_children (suc (suc (suc zero))) = omega arith
+few_children (suc (suc (suc (suc k)))) = omega arith
+
+pub few_in_shape : (bs : List ℕ) (shape : Shape) (rest : List ℕ) → BeginsWith bs shape rest → shape.children ≤ 2
+few_in_shape bs shape rest b = let d : shape.children ≡ kind_children b.number = ap (λ (s : Shape). s.children) b.is in omega (arith, few_children b.number)
 
 -- trees that stand first in bytes read to be trees are those that were read
 record Behind (f : Trees) (n m q : ℕ) (rest : List ℕ) : Type 0 where

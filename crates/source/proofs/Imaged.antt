@@ -1,7 +1,7 @@
 -- Images mean the rows in their bytes. Assumes nothing.
-use Rattle.std.proofs.Common.{◌≡◌, ℕ, zero, suc, ◌+◌, ◌-◌, ◌*◌, ◌<◌, ◌≤◌, min, eqb, leb, List, length, get_or, take, drop, Some, Decides, sym, refl, ap, ◌∙◌, mul-le-mul_right, suc-mul, zero-mul, arith, length-drop}
+use Rattle.std.proofs.Common.{◌≡◌, ℕ, zero, suc, ◌+◌, ◌-◌, ◌*◌, ◌<◌, ◌≤◌, min, eqb, leb, List, length, get_or, take, drop, Some, Decides, sym, refl, ap, ◌∙◌, ⊎_elim, mul-le-mul_right, suc-mul, zero-mul, arith, length-drop}
 use Rattle.std.proofs.lemmas.Bool.Decides.{Decides-and, Decides-eqb, Decides-like}
-use Rattle.std.proofs.lemmas.Bool.{cond-true, le-leb}
+use Rattle.std.proofs.lemmas.Bool.{cond-true, cond-false, cases_Bool, le-leb}
 use Rattle.std.proofs.lemmas.List.{drop-drop, get_or-drop, take_all}
 use Rattle.std.proofs.lemmas.Option.{slice_get-get_or}
 use Rattle.std.specs.List.{slice_get}
@@ -10,7 +10,7 @@ use Rattle.codec.specs.Rows.{row_of, front_row, rows_of}
 use Rattle.codec.proofs.Rows.{rows_wide}
 use Rattle.source.specs.Table.{Sound, Table, table_of, no_rows}
 use Rattle.source.specs.Images.{named_count, named_width, named_rows, TableImage, is_image, image_table}
-use Rattle.source.proofs.Tables.{decides_leb, table_width, table_content}
+use Rattle.source.proofs.Tables.{decides_leb, table_width, table_content, no_content, no_width}
 
 decides_image : (bs : List ℕ) → Decides (is_image bs) (TableImage bs)
 unfolding is_image
@@ -46,14 +46,25 @@ meant : (bs : List ℕ) → TableImage bs → image_table bs ≡ table_of (named
 unfolding image_table
 meant bs g = cond-true (is_image bs) (table_of (named_width bs) (named_rows bs)) (no_rows 1) ((decides_image bs).1 g)
 
+-- bytes that break the rule mean a table without rows
+unmeant : (bs : List ℕ) → (TableImage bs → ⊥) → image_table bs ≡ (no_rows 1)
+unfolding image_table
+unmeant bs h = cond-false (is_image bs) (table_of (named_width bs) (named_rows bs)) (no_rows 1) (⊎_elim (λ t. absurd (h ((decides_image bs).0 t))) (λ f. f) (cases_Bool (is_image bs)))
+
 pub width_good : (bs : List ℕ) → TableImage bs → (image_table bs).width ≡ named_width bs
 width_good bs g = ap (λ (t : Table). t.width) (meant bs g) ∙ table_width (named_width bs) (named_rows bs) g.some g.narrow
+
+pub width_bad : (bs : List ℕ) → (TableImage bs → ⊥) → (image_table bs).width ≡ 1
+width_bad bs h = ap (λ (t : Table). t.width) (unmeant bs h) ∙ no_width 1
 
 pub rows_good : (bs : List ℕ) → TableImage bs → (image_table bs).content ≡ named_rows bs
 rows_good bs g = ap (λ (t : Table). t.content) (meant bs g) ∙ table_content (named_width bs) (named_rows bs) (image_sound bs g)
 
 pub count_good : (bs : List ℕ) → TableImage bs → length (image_table bs).content ≡ named_count bs
 count_good bs g = ap length (rows_good bs g) ∙ length_rows_of (named_width bs) (named_count bs) (drop 4 bs)
+
+pub count_bad : (bs : List ℕ) → (TableImage bs → ⊥) → length (image_table bs).content ≡ 0
+count_bad bs h = ap (λ (t : Table). length t.content) (unmeant bs h) ∙ ap length (no_content 1)
 
 -- row i, where there is one
 pub row_good : (bs : List ℕ) (i w : ℕ) (d : Row) → TableImage bs → i < named_count bs → w ≡ named_width bs

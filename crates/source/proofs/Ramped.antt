@@ -1,17 +1,19 @@
 -- Ramps mean their rows. Assumes nothing.
-use Rattle.std.proofs.Common.{◌≡◌, ℕ, zero, suc, ◌+◌, ◌-◌, ◌*◌, ◌^◌, ◌<◌, ◌≤◌, Bool, length, get_or, replicate, ◌∷◌, Some, ℤ, pos, negsuc, ◌+ℤ◌, ◌*ℤ◌, Decides, Ok, Err, Result, OkIff, is_ok, sym, refl, ap, ◌∙◌, subst, mul-le-mul_right, arith, w32, w64, SFits, to_z, of_z}
+use Rattle.std.proofs.Common.{◌≡◌, ℕ, zero, suc, ◌+◌, ◌-◌, ◌*◌, ◌^◌, ◌<◌, ◌≤◌, Bool, length, get_or, replicate, ◌∷◌, Some, ℤ, pos, negsuc, ◌+ℤ◌, ◌*ℤ◌, Decides, Ok, Err, Result, OkIff, is_ok, sym, refl, ap, ◌∙◌, subst, ⊎_elim, mul-le-mul_right, arith, w32, w64, SFits, to_z, of_z}
 use lib.IntN.{zero-*ℤ}
 use Rattle.std.specs.List.{range_with_len, AllByRecursion}
 use Rattle.std.proofs.lemmas.List.FromFn.{length-map-range_with_len, get_or-map-range_with_len}
-use Rattle.std.proofs.ByRecursion.{All-map}
+use Rattle.std.proofs.ByRecursion.{All-map, All-get_or}
 use Rattle.std.proofs.lemmas.Int.{ints, to_z-of_z}
+use Rattle.std.proofs.lemmas.Bool.Decides.{not_from_Decides}
+use Rattle.std.proofs.lemmas.Bool.{cases_Bool}
 use Rattle.std.proofs.lemmas.Option.{slice_get-get_or}
 use Rattle.std.specs.List.{slice_get}
 use Rattle.codec.specs.declared.row.Row.{Row}
 use Rattle.codec.specs.Rows.{Wide}
-use Rattle.source.specs.Table.{Sound}
+use Rattle.source.specs.Table.{Sound, sound}
 use Rattle.source.specs.Ramps.{ramp_cell, ramp_row, ramp_rows, RampFits, ramp_table}
-use Rattle.source.proofs.Tables.{table_width, table_content}
+use Rattle.source.proofs.Tables.{decides_sound, table_width, table_content, table_broken}
 
 widened : (z : ℤ) → SFits w32 z → SFits w64 z
 widened z f = omega (arith, ints, f.sfits)
@@ -88,11 +90,31 @@ ramp_sound a s n g = record {
   wide = All-map (Wide 2) (ramp_row a s) (range_with_len 0 n) (counted (λ i. Wide 2 (ramp_row a s i)) 0 n n (omega arith) (λ i h. row_wide a s i (omega (arith, g.few)) (g.inside i h)));
 }
 
+second : (a s : ℤ) (i : ℕ) → Wide 2 (ramp_row a s i) → SFits w32 (ramp_cell a s i)
+unfolding ramp_row
+second a s i h = h.cells.1.0
+
+sound_ramp : (a s : ℤ) (n : ℕ) → Sound 2 (ramp_rows a s n) → RampFits a s n
+sound_ramp a s n h = record {
+  few = omega (arith, h.few, length_ramp a s n);
+  inside = λ i lt. second a s i (rw (row_at a s n i (ramp_row a s i) lt) at (All-get_or (Wide 2) (ramp_rows a s n) i (ramp_row a s i) (rw (length_ramp a s n) lt) h.wide));
+}
+
 pub ramp_content : (a s : ℤ) (n : ℕ) → RampFits a s n → (ramp_table a s n).content ≡ ramp_rows a s n
 ramp_content a s n g = table_content 2 (ramp_rows a s n) (ramp_sound a s n g)
 
 pub ramp_length : (a s : ℤ) (n : ℕ) → RampFits a s n → length (ramp_table a s n).content ≡ n
 ramp_length a s n g = ap length (ramp_content a s n g) ∙ length_ramp a s n
+
+-- numbers that break the rule mean a table without rows
+pub ramp_empty : (a s : ℤ) (n : ℕ) → (RampFits a s n → ⊥) → length (ramp_table a s n).content ≡ 0
+ramp_empty a s n h = ap length (table_broken 2 (ramp_rows a s n) (λ g. h (sound_ramp a s n g)))
+
+pub ramp_most : (a s : ℤ) (n : ℕ) → length (ramp_table a s n).content ≤ n
+ramp_most a s n =
+    ⊎_elim (λ t. omega (arith, ramp_length a s n (sound_ramp a s n ((decides_sound 2 (ramp_rows a s n)).0 t))))
+    (λ f. omega (arith, ramp_empty a s n (λ g. not_from_Decides (sound 2 (ramp_rows a s n)) (decides_sound 2 (ramp_rows a s n)) f (ramp_sound a s n g))))
+    (cases_Bool (sound 2 (ramp_rows a s n)))
 
 pub ramp_at : (a s : ℤ) (n i : ℕ) (d : Row) → RampFits a s n → i < n → get_or (ramp_table a s n).content i d ≡ ramp_row a s i
 ramp_at a s n i d g h = ap (λ l. get_or l i d) (ramp_content a s n g) ∙ row_at a s n i d h

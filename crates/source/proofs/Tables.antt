@@ -46,6 +46,15 @@ pub no_width : (w : ℕ) → (no_rows w).width ≡ row_width w
 unfolding no_rows
 no_width w = refl
 
+-- rows that break the rule are none
+broken : (w : ℕ) (rows : Content) (b : Bool) (e : sound w rows ≡ b) → (Sound w rows → ⊥) → (table_by w rows b e).content ≡ []
+broken w rows true e h = absurd (h ((decides_sound w rows).0 e))
+broken w rows false e h = no_content w
+
+pub table_broken : (w : ℕ) (rows : Content) → (Sound w rows → ⊥) → (table_of w rows).content ≡ []
+unfolding table_of
+table_broken w rows h = broken w rows (sound w rows) refl h
+
 -- any row's width is kept
 kept : (w : ℕ) (rows : Content) (b : Bool) (e : sound w rows ≡ b) → 1 ≤ w → w ≤ 8 → (table_by w rows b e).width ≡ w
 kept w rows true e h k = refl

@@ -1,5 +1,5 @@
 use Rattle.std.proofs.Common.{inl, inr, sym, ◌∙◌, arith}
-use Rattle.plan.proofs.Told.{also, few_children, told_end, told_nothing, told_full, told_turn}
+use Rattle.plan.proofs.Told.{also, few_in_shape, told_end, told_nothing, told_full, told_turn}
 use Rattle.plan.proofs.is_one_tree.Goals as goal
 use Rattle.plan.proofs.is_one_tree.Goals.{then-operators_left-eq0-via-then-operators_left-eq0, then-operators_left-eq0-via-else-operators_left-eq0+then-shape-keepers_left}
 
@@ -22,7 +22,7 @@ loop-open-preserved c =
     let l = c.loop-open in (
       omega arith,
       omega arith,
-      omega (arith, few_children l.rest.now c.in-Some.shape c.in-Some.behind.now c.in-Some.ensures, c.loop-open-test.true, c.if-operators_left-eq0.false),
+      omega (arith, few_in_shape l.rest.now c.in-Some.shape c.in-Some.behind.now c.in-Some.ensures, c.loop-open-test.true, c.if-operators_left-eq0.false),
       l.invariant.3 ∙ told_turn l.operators_left l.«open» l.keepers_left l.rest.now c.in-Some.shape c.in-Some.behind.now c.loop-open-test.true c.in-Some.ensures (omega (arith, c.if-operators_left-eq0.false)) c.if-shape-keepers_left.false,
     )
 

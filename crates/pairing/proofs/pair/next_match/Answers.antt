@@ -1,19 +1,28 @@
-use Rattle.std.proofs.Common.{rules, [], sym, ◌∙◌}
+use Rattle.std.proofs.Common.{rules, ◌≡◌, ◌<◌, drop, [], length, sym, ◌∙◌, arith}
+use Rattle.std.proofs.lemmas.List.{take_rest}
 use Rattle.codec.specs.declared.row.Row.{Row}
 use Rattle.pairing.specs.Terms.{terms_of}
 use Rattle.pairing.specs.Pairs.{Pairing}
-use Rattle.pairing.proofs.Rows.{first_hit, first_none, Passed}
+use Rattle.pairing.proofs.Rows.{first_hit_part, first_none, first_none_part}
 use Rattle.pairing.proofs.pair.next_match.Goals as goal
 
 pub returns : goal.returns
 returns c =
     let p : Pairing = record { terms = terms_of c.args.rule.now; width = c.args.width } in
     let d : Row = record { cells = [] } in
-    let f : Passed p c.args.rows.now c.args.held.now d c.args.from c.in_ok-at.at = λ k a b. search rules in
-    let h = first_hit p c.args.rows.now c.args.held.now d c.in_ok-at.outer.now c.args.from c.in_ok-at.at (search rules) (search rules) (search rules) (search rules) f in
+    let part = c.in_ok-get.field-0.now in
+    let e : part ≡ drop c.args.from c.args.rows.now = c.in_ok-get.ensures.lookup.0.2 ∙ take_rest c.args.rows.now c.args.from in
+    let h = first_hit_part p c.args.rows.now c.args.held.now d part c.in_ok-at.outer.now c.args.from c.in_ok-at.at e (search rules) (search rules) (search rules) (λ j l. search rules) in
     let j = c.joined_row.ensures in
     rw j (sym h)
 
 pub returns-in_err-at : goal.returns-in_err-at
 returns-in_err-at c =
-    c.from_residual.ensures ∙ sym (first_none (record { terms = terms_of c.args.rule.now; width = c.args.width }) c.args.rows.now c.args.held.now (record { cells = [] }) c.args.from (λ k a b. search rules))
+    let part = c.in_ok-get.field-0.now in
+    let e : part ≡ drop c.args.from c.args.rows.now = c.in_ok-get.ensures.lookup.0.2 ∙ take_rest c.args.rows.now c.args.from in
+    c.from_residual-in_err-at.ensures ∙ sym (first_none_part (record { terms = terms_of c.args.rule.now; width = c.args.width }) c.args.rows.now c.args.held.now (record { cells = [] }) part c.args.from e (λ j l. search rules))
+
+pub returns-in_err-get : goal.returns-in_err-get
+returns-in_err-get c =
+    let behind : length c.args.rows.now < c.args.from = search rules in
+    c.from_residual.ensures ∙ sym (first_none (record { terms = terms_of c.args.rule.now; width = c.args.width }) c.args.rows.now c.args.held.now (record { cells = [] }) c.args.from (λ k a b. absurd (omega arith)))

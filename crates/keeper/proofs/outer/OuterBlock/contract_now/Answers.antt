@@ -1,7 +1,8 @@
 use Rattle.std.proofs.Common.{ℕ, List, take, replicate, refl, ap, ◌∙◌, arith}
 use Rattle.plan.proofs.Told.{plan_keepers}
 use Rattle.block.specs.Held.{signed}
-use Rattle.keeper.proofs.Blocks.{signed_ok, signed_err, all_back}
+use Rattle.block.proofs.Parts.{signed_ok, signed_err}
+use Rattle.keeper.proofs.Blocks.{all_back}
 use Rattle.keeper.proofs.outer.OuterBlock.contract_now.Goals as goal
 
 pub returns : goal.returns

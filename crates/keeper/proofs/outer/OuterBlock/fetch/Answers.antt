@@ -19,7 +19,7 @@ loop-self-preserved-in-Row g c =
     let inv = c.loop-self.invariant in
     let t = taken_of o c.loop-self.self in
     let n = ap length c.rows.ensures.is in
-    row_turn o.machine (of o) g.met.O.Operator.laws _ _ c.args.count t _ _ _ _ inv (omega arith) refl (g.met.O.Operator.laws.moves t.child inv.good) (c.in-Row.ensures inv.good) (taken_same _ _ _ _ _ _ (c.add.ensures.added (omega (arith, c.requires.1))) refl refl)
+    (row_turn o.machine (of o) g.met.O.Operator.laws _ _ c.args.count t _ _ _ _ inv (omega arith) refl (g.met.O.Operator.laws.moves t.child inv.good) (c.in-Row.ensures inv.good) (taken_same _ _ _ _ _ _ (c.add.ensures.added (omega (arith, c.requires.1))) refl refl)).0
 
 pub loop-self-preserved : goal.loop-self-preserved
 loop-self-preserved g c =
@@ -27,7 +27,7 @@ loop-self-preserved g c =
     let inv = c.loop-self.invariant in
     let t = taken_of o c.loop-self.self in
     let n = ap length c.rows.ensures.is in
-    busy_turn o.machine (of o) g.met.O.Operator.laws _ _ c.args.count t _ _ _ inv (omega arith) refl (g.met.O.Operator.laws.moves t.child inv.good) (c.in-Busy.ensures inv.good) refl
+    (busy_turn o.machine (of o) g.met.O.Operator.laws _ _ c.args.count t _ _ _ inv (omega arith) refl (g.met.O.Operator.laws.moves t.child inv.good) (c.in-Busy.ensures inv.good) refl).0
 
 pub returns-in-End : goal.returns-in-End
 returns-in-End g c =

@@ -4,6 +4,7 @@ use Rattle.codec.specs.Rows.{rows_of}
 use Rattle.operator.specs.Of.{of}
 use Rattle.block.specs.declared.part.Stored.{Stored}
 use Rattle.block.specs.Kept.{kept_of, kept_record}
+use Rattle.block.specs.Held.{contract_of}
 use Rattle.keeper.specs.Taking.{taken, fetch}
 use Rattle.keeper.specs.Outer.{taken_of, Loadable, Restores}
 use Rattle.keeper.proofs.Blocks.{taken_same}
@@ -74,6 +75,6 @@ returns-in_ok-load-in-Owed g c =
           let held = c.of-self.ensures ∙ signed_so bs k.1 in
           owed_as o.machine o.togo (o.machine.restored x) (kept_of v c.args.stored) c.in-Owed.count bs t _ _ (ap (kept_of v) c.in-Owed.is) (loaded_ok _ _ _ _ (c.in_ok-load-in-Owed.ensures few))
           (subst (λ (z : Option (List ℕ)). Restores (fetch o.machine.next (o.togo t) c.in-Owed.count (taken [] z t)) c.fetch.result (taken_of o c.fetch.new.self)) held
-          (subst (λ (j : ℕ). Restores (fetch o.machine.next (o.togo t) j (taken [] c.of-self.result t)) c.fetch.result (taken_of o c.fetch.new.self)) n c.fetch.ensures.fetched));
+          (subst (λ (j : ℕ). Restores (fetch o.machine.next (o.togo t) j (taken [] (contract_of c.of-self.result) t)) c.fetch.result (taken_of o c.fetch.new.self)) n c.fetch.ensures.fetched));
       begins = λ few. c.fetch.ensures.begins ∙ begin_loaded o.machine (of o) g.met.O.Operator.laws x bs t _ few (c.in_ok-load-in-Owed.ensures few);
     }
