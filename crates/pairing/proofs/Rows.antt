@@ -7,8 +7,8 @@ use Rattle.codec.specs.declared.row.Row.{Row}
 use Rattle.codec.specs.Bytes.{word_cell}
 use Rattle.codec.specs.Rows.{cell_at}
 use Rattle.pairing.specs.declared.pair.Hit.{Hit}
-use Rattle.pairing.specs.Condition.{joins}
-use Rattle.pairing.specs.Terms.{Terms, Match, match}
+use Rattle.pairing.specs.Condition.{Joins, joins}
+use Rattle.pairing.specs.Terms.{Terms, Match, match, MatchCell, match_cell}
 use Rattle.pairing.specs.Pairs.{Pairing, row_joined, first}
 use Rattle.pairing.proofs.Law.{decides_match}
 
@@ -17,6 +17,18 @@ pub matched : (t : Bool) (r : Terms) (a b : Row) (c : ℕ) (w x y : ℤ) → t �
     → (t ≡ match r a b) × Decides t (Match r a b)
 unfolding match
 matched t r a b c w x y e p q u v = let m : t ≡ match r a b = cc in (m, Decides-at t (match r a b) m (decides_match r a b))
+
+-- the same by the inner row's cell
+pub matched_cell : (t : Bool) (r : Terms) (a : Row) (c : ℕ) (w x y z : ℤ) → (t ≡ joins c w x z) × Decides t (Joins c w x z) → c ≡ r.condition → w ≡ word_cell r.band → x ≡ cell_at a r.left → z ≡ y
+    → (t ≡ match_cell r a y) × Decides t (MatchCell r a y)
+matched_cell t r a c w x y z e p q u v = rw (sym p, sym q, sym u, sym v) e
+
+pub by_cell : (t : Bool) (r : Terms) (a b : Row) (y : ℤ) → y ≡ cell_at b r.right → match_cell r a y ≡ t → match r a b ≡ t
+unfolding match
+by_cell t r a b y e f = ap (match_cell r a) (sym e) ∙ f
+
+pub matched_by : (t : Bool) (r : Terms) (a b : Row) (y : ℤ) → t ≡ match_cell r a y → y ≡ cell_at b r.right → (t ≡ match r a b) × Decides t (Match r a b)
+matched_by t r a b y e v = let m : t ≡ match r a b = sym (by_cell t r a b y v (sym e)) in (m, Decides-at t (match r a b) m (decides_match r a b))
 
 -- a joined row cell by cell: the outer cells within their width, behind them the inner cells, and one cell more
 pub outer_cell : (w i : ℕ) (xs ys : List ℤ) (d : ℤ) → i < w → i < length xs → get_or (take w xs ++ ys) i d ≡ get_or xs i d

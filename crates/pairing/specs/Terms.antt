@@ -1,5 +1,5 @@
 -- The parameters of a block join, what they match and what is wrong with them. Assumes nothing.
-use Rattle.std.specs.Prelude.{ℕ, ◌+◌, min, max, Bool, cond, not, ◌&&◌, ◌||◌, List, ◌∷◌, pos, Some, None, Option, ◌==◌, int_lt, nat_le, nat_lt}
+use Rattle.std.specs.Prelude.{ℕ, ◌+◌, min, max, Bool, cond, not, ◌&&◌, ◌||◌, List, ◌∷◌, ℤ, pos, Some, None, Option, ◌==◌, int_lt, nat_le, nat_lt}
 use Rattle.refusal.specs.Numbers.{Fault, fault_at}
 use Rattle.codec.specs.declared.row.Row.{Row}
 use Rattle.codec.specs.Bytes.{Word, word_bytes, word_cell, cell_word}
@@ -34,6 +34,13 @@ Match r a b = Joins r.condition (word_cell r.band) (cell_at a r.left) (cell_at b
 -- the same as a test
 unfoldable pub match : Terms → Row → Row → Bool
 match r a b = joins r.condition (word_cell r.band) (cell_at a r.left) (cell_at b r.right)
+
+-- an outer row and an inner row's cell match, and the same as a test
+abbrev pub MatchCell : Terms → Row → ℤ → Type 0
+MatchCell r a y = Joins r.condition (word_cell r.band) (cell_at a r.left) y
+
+abbrev pub match_cell : Terms → Row → ℤ → Bool
+match_cell r a y = joins r.condition (word_cell r.band) (cell_at a r.left) y
 
 -- a cell number is not below its row's width, for rows of the widths v and w
 abbrev pub misfits : Terms → ℕ → ℕ → Bool

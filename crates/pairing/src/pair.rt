@@ -40,12 +40,14 @@ pub fn next_match(
 ) -> Option<Hit>
     ensures { result ≡ first (record { terms = terms_of rule.now; width = width }) held.now from (drop from rows.now) }
 {
+    // One cell for all rows of the part.
+    let right = held.cell(rule.inner_cell);
     // Over the part from there on: `skip` would step over the rows ahead one by one at each call.
     let (at, outer) = rows
         .get(from..)?
         .iter()
         .enumerate()
-        .find(|(_, outer)| rule.matches(outer, held))?;
+        .find(|(_, outer)| rule.matches_cell(outer, right))?;
     Some(Hit {
         row: joined_row(width, outer, held),
         next: from + at + 1,

@@ -1,7 +1,7 @@
 // The parameters of a block join.
 ghost use Rattle.std.specs.Prelude.{◌≡◌, ◌+◌, ◌||◌, Decides, nat_lt};
 ghost use Rattle.refusal.specs.Numbers.{faults};
-ghost use Rattle.pairing.specs.Terms.{Match, match, terms_of, block_size, misfits, bad_block, bad_condition, join_flaw};
+ghost use Rattle.pairing.specs.Terms.{Match, match, MatchCell, match_cell, terms_of, block_size, misfits, bad_block, bad_condition, join_flaw};
 
 use crate::condition::{is_join_condition, joins};
 use crate::widths::Widths;
@@ -38,8 +38,14 @@ impl JoinRule {
     pub fn matches(&self, outer: &Row, inner: &Row) -> bool
         ensures { (result ≡ match (terms_of self.now) outer.now inner.now) × Decides result (Match (terms_of self.now) outer.now inner.now) }
     {
+        self.matches_cell(outer, inner.cell(self.inner_cell))
+    }
+
+    // Whether an outer row and an inner row's cell match.
+    pub fn matches_cell(&self, outer: &Row, right: i32) -> bool
+        ensures { (result ≡ match_cell (terms_of self.now) outer.now right) × Decides result (MatchCell (terms_of self.now) outer.now right) }
+    {
         let left = outer.cell(self.outer_cell);
-        let right = inner.cell(self.inner_cell);
         joins(char::from(self.condition), self.band, left, right)
     }
 

@@ -1,14 +1,10 @@
-use Rattle.std.proofs.Common.{sym, ◌∙◌, w32, SFits, rules}
+use Rattle.std.proofs.Common.{◌∙◌, w32, SFits, rules}
 use Rattle.std.proofs.lemmas.Int.{to_z-of_z}
-use Rattle.codec.proofs.Laws.{cell_back}
 use Rattle.pairing.specs.Terms.{terms_of}
-use Rattle.pairing.proofs.Rows.{matched}
+use Rattle.pairing.proofs.Rows.{matched_by}
 use Rattle.pairing.proofs.rule.JoinRule.matches.Goals as goal
 
 pub returns : goal.returns
 returns c =
-    let f : SFits w32 c.args.self.now.band = search rules in
-    let l : SFits w32 c.cell-left.result = search rules in
-    let r : SFits w32 c.cell-right.result = search rules in
-    matched _ (terms_of c.args.self.now) c.args.outer.now c.args.inner.now _ _ _ _ c.joins.ensures.0 c.from.ensures
-    (to_z-of_z w32 _ f ∙ sym (cell_back _ f)) (to_z-of_z w32 _ l ∙ c.cell-left.ensures) (to_z-of_z w32 _ r ∙ c.cell-right.ensures)
+    let r : SFits w32 c.cell.result = search rules in
+    matched_by _ (terms_of c.args.self.now) c.args.outer.now c.args.inner.now _ c.matches_cell.ensures.0 (to_z-of_z w32 _ r ∙ c.cell.ensures)
